@@ -1,0 +1,88 @@
+-- A hold-back around one call of the bank below. Assumes nothing.
+use mathlib.Core.Path.{_≡_, refl, sym, ap, subst, _∙_}
+use mathlib.Core.List.{List, [], _∷_}
+use mathlib.Core.Bool.{Bool, true, false, cond}
+use Prim.Native.Nat.{ℕ, _<_, _≤_, min}
+use native.Mathlib.Omega.{arith}
+use lib.Dec.{ltb}
+use lib.ListN.{length, getD, set, take, length-take}
+use lib.Seq.{getD-take, take-set-lt}
+use Rattle.std.proofs.shelf.Tests.{lt-ltb, le-ltb, cond-true, cond-false}
+use Rattle.std.proofs.shelf.Elements.{all-set, all-push}
+use Rattle.std.specs.declared.option.Option.{Option}
+use Rattle.std.specs.declared.option.Option.the-variants.{Some, None}
+use Rattle.refusal.specs.Told.{granted}
+use Rattle.bank.specs.declared.hold_back.HeldCell.{HeldCell}
+use Rattle.bank.specs.declared.hold_back.HoldBack.{HoldBack}
+use Rattle.bank.specs.Cells.{Word, reading, Kept}
+use Rattle.bank.specs.Holding.{held-cell, held-by, place-of, replaced, length-replaced, staying, surplus, stored-at, stored, overflow-at, overflow, Held-fit}
+use Rattle.bank.proofs.Held.{blank, absent-cell, found-cell, found-set, found-here, place-within, replaced-append}
+use Rattle.bank.proofs.Replies.{reading-in}
+
+-- Keeping, where the number of cells below is the same.
+pub hold-kept : {B : Type 0} (cells : B → List ℕ) {sound : B → Type 0} {outside : B → List (List ℕ)} {fixed : B → List ℕ} {h h′ : HoldBack B} → length (cells (h′ .below)) ≡ length (cells (h .below)) → (Held-fit (length (cells (h .below))) (held-by h) → Held-fit (length (cells (h .below))) (held-by h′)) → Kept sound outside fixed (h .below) (h′ .below) → Kept (λ (k : HoldBack B). sound (k .below) × Held-fit (length (cells (k .below))) (held-by k)) (λ (k : HoldBack B). outside (k .below)) (λ (k : HoldBack B). fixed (k .below)) h h′
+hold-kept cells {h′ = h′} same fit kept = record { soundness = λ s. (kept .soundness (s .0), subst (λ n. Held-fit n (held-by h′)) (sym same) (fit (s .1))); unmoved = kept .unmoved; unaltered = kept .unaltered }
+
+pub place-below : (slots : List HeldCell) (count cell i : ℕ) → place-of (take (min count 8) slots) cell ≡ Some i → i < 8
+place-below slots count cell i e = omega (arith, place-within (take (min count 8) slots) cell i e, length-take (min count 8) slots)
+
+pub found-reading : (hs : List HeldCell) (n : ℕ) (cells : List ℕ) (cell i : ℕ) → place-of (take n hs) cell ≡ Some i → cell < length cells → granted (getD hs i blank .value) ≡ reading (replaced (take n hs) cells) cell
+found-reading hs n cells cell i e lt =
+    let ks = take n hs in
+    let within : i < n = omega (arith, place-within ks cell i e, length-take n hs) in
+    ap granted (sym (found-cell ks cells cell i e lt ∙ ap (λ h. h .value) (getD-take n hs i blank within))) ∙ reading-in (replaced ks cells) cell (rw (length-replaced ks cells) lt)
+
+pub absent-reading : (hs : List HeldCell) (cells : List ℕ) (cell : ℕ) → place-of hs cell ≡ None → cell < length cells → reading cells cell ≡ reading (replaced hs cells) cell
+absent-reading hs cells cell e lt =
+    sym (reading-in cells cell lt) ∙ ap granted (sym (absent-cell hs cells cell e)) ∙ reading-in (replaced hs cells) cell (rw (length-replaced hs cells) lt)
+
+module _ (hs : List HeldCell) (room : length hs < 8) where
+  pub staying-room : staying hs ≡ hs
+  staying-room = cond-true (ltb (length hs) 8) hs [] (lt-ltb (length hs) 8 room)
+
+  pub surplus-room : surplus hs ≡ []
+  surplus-room = cond-true (ltb (length hs) 8) [] hs (lt-ltb (length hs) 8 room)
+
+module _ (hs : List HeldCell) (full : 8 ≤ length hs) where
+  pub staying-full : staying hs ≡ []
+  staying-full = cond-false (ltb (length hs) 8) hs [] (le-ltb (length hs) 8 full)
+
+  pub surplus-full : surplus hs ≡ hs
+  surplus-full = cond-false (ltb (length hs) 8) [] hs (le-ltb (length hs) 8 full)
+
+split-by : (b : Bool) (hs : List HeldCell) (cells : List ℕ) → replaced (cond b hs []) (replaced (cond b [] hs) cells) ≡ replaced hs cells
+split-by true hs cells = refl
+split-by false hs cells = refl
+
+pub staying-surplus : (hs : List HeldCell) (cells : List ℕ) → replaced (staying hs) (replaced (surplus hs) cells) ≡ replaced hs cells
+staying-surplus hs cells = split-by (ltb (length hs) 8) hs cells
+
+fit-by : (b : Bool) (n : ℕ) (hs : List HeldCell) → Held-fit n hs → Held-fit n (cond b hs [])
+fit-by true n hs f = f
+fit-by false n hs f = tt
+
+pub staying-fit : (n : ℕ) (hs : List HeldCell) → Held-fit n hs → Held-fit n (staying hs)
+staying-fit n hs f = fit-by (ltb (length hs) 8) n hs f
+
+stored-cells-at : (o : Option ℕ) (hs : List HeldCell) (cells : List ℕ) (i v : ℕ) → place-of hs i ≡ o → replaced (stored-at o hs (held-cell i v)) (replaced (overflow-at o hs) cells) ≡ set (replaced hs cells) i v
+stored-cells-at (Some k) hs cells i v e = found-set hs cells i k v e
+stored-cells-at None hs cells i v e = replaced-append (staying hs) (held-cell i v ∷ []) (replaced (surplus hs) cells) ∙ ap (λ xs. set xs i v) (staying-surplus hs cells)
+
+-- What is held and what went down make up the write.
+pub stored-cells : (hs : List HeldCell) (cells : List ℕ) (i v : ℕ) → replaced (stored hs i v) (replaced (overflow hs i) cells) ≡ set (replaced hs cells) i v
+stored-cells hs cells i v = stored-cells-at (place-of hs i) hs cells i v refl
+
+stored-fit-at : (o : Option ℕ) (n : ℕ) (hs : List HeldCell) (i v : ℕ) → i < n → Word v → Held-fit n hs → Held-fit n (stored-at o hs (held-cell i v))
+stored-fit-at (Some k) n hs i v lt w f = all-set (λ h. (h .cell < n) × Word (h .value)) hs k (held-cell i v) (lt, w) f
+stored-fit-at None n hs i v lt w f = all-push (λ h. (h .cell < n) × Word (h .value)) (staying hs) (held-cell i v) (staying-fit n hs f) (lt, w)
+
+pub stored-fit : (n : ℕ) (hs : List HeldCell) (i v : ℕ) → i < n → Word v → Held-fit n hs → Held-fit n (stored hs i v)
+stored-fit n hs i v = stored-fit-at (place-of hs i) n hs i v
+
+-- A held cell takes the value in its slot.
+pub slot-stored : (slots : List HeldCell) (n i v k : ℕ) → place-of (take n slots) i ≡ Some k → take n (set slots k (held-cell (getD slots k blank .cell) v)) ≡ stored (take n slots) i v
+slot-stored slots n i v k e =
+    let hs = take n slots in
+    let within : k < n = omega (arith, place-within hs i k e, length-take n slots) in
+    let here : getD slots k blank .cell ≡ i = sym (ap (λ h. h .cell) (getD-take n slots k blank within)) ∙ found-here hs i k e in
+    ap (λ c. take n (set slots k (held-cell c v))) here ∙ take-set-lt n slots k (held-cell i v) within ∙ sym (ap (λ o. stored-at o hs (held-cell i v)) e)
