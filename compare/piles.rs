@@ -1,5 +1,5 @@
 //! Reads actions on piles of banks from standard input, one to a line, and writes the replies to standard output.
-//! Written from docs/PILES.md and docs/BANKS.md alone, to be compared with the program `piles`.
+//! Written from docs/PILES.md, docs/BANKS.md and docs/REFUSALS.md alone, to be compared with the program `piles`.
 //!
 //! Build: rustc --edition 2021 -O piles.rs
 

@@ -14,7 +14,7 @@ use Rattle.std.proofs.shelf.Tests.{eqb-true, eqb-false, eq-eqb, ne-eqb}
 use Rattle.std.specs.declared.option.Option.{Option}
 use Rattle.std.specs.declared.option.Option.the-variants.{Some, None}
 use Rattle.bank.specs.declared.hold_back.HeldCell.{HeldCell}
-use Rattle.bank.specs.Holding.{held-cell, one-in-front, place-of, replaced}
+use Rattle.bank.specs.Holding.{held-cell, one-in-front, place-of, replaced, Apart}
 
 abbrev pub blank : HeldCell
 blank = held-cell 0 0
@@ -102,3 +102,22 @@ pub found-here : (hs : List HeldCell) (cell i : ℕ) → place-of hs cell ≡ So
 found-here [] cell i e = absurd (let z : _≡_ {A = ℕ} 0 1 = cc in omega arith)
 found-here (h ∷ hs) cell zero e = is-here h hs cell e
 found-here (h ∷ hs) cell (suc i) e = found-here hs cell i (is-behind h hs cell i e)
+
+-- ---- no cell is held twice, after a write either
+pub place-set : (hs : List HeldCell) (cell i v d : ℕ) → place-of hs cell ≡ Some i → place-of (set hs i (held-cell cell v)) d ≡ place-of hs d
+place-set [] cell i v d e = absurd (let z : _≡_ {A = ℕ} 0 1 = cc in omega arith)
+place-set (h ∷ hs) cell zero v d e = ap (λ k. one-in-front (place-of hs d) (eqb k d)) (sym (is-here h hs cell e))
+place-set (h ∷ hs) cell (suc i) v d e = ap (λ o. one-in-front o (eqb (h .cell) d)) (place-set hs cell i v d (is-behind h hs cell i e))
+
+pub apart-set : (hs : List HeldCell) (cell i v : ℕ) → place-of hs cell ≡ Some i → Apart hs → Apart (set hs i (held-cell cell v))
+apart-set [] cell i v e a = tt
+apart-set (h ∷ hs) cell zero v e a = (only-here h hs cell e, a .1)
+apart-set (h ∷ hs) cell (suc i) v e a = (place-set hs cell i v (h .cell) (is-behind h hs cell i e) ∙ a .0, apart-set hs cell i v (is-behind h hs cell i e) (a .1))
+
+place-push : (hs : List HeldCell) (cell v d : ℕ) → (cell ≡ d → ⊥) → place-of hs d ≡ None → place-of (hs ++ held-cell cell v ∷ []) d ≡ None
+place-push [] cell v d ne e = ap (one-in-front None) (ne-eqb cell d ne)
+place-push (h ∷ hs) cell v d ne e = ap (λ o. one-in-front o (eqb (h .cell) d)) (place-push hs cell v d ne (absent-behind h hs d e)) ∙ ap (one-in-front None) (ne-eqb (h .cell) d (λ same. absent-here h hs d e (sym same)))
+
+pub apart-push : (hs : List HeldCell) (cell v : ℕ) → place-of hs cell ≡ None → Apart hs → Apart (hs ++ held-cell cell v ∷ [])
+apart-push [] cell v e a = (refl, tt)
+apart-push (h ∷ hs) cell v e a = (place-push hs cell v (h .cell) (absent-here h hs cell e) (a .0), apart-push hs cell v (absent-behind h hs cell e) (a .1))

@@ -11,17 +11,17 @@ use Rattle.std.proofs.shelf.Tests.{lt-ltb, le-ltb, cond-true, cond-false}
 use Rattle.std.proofs.shelf.Elements.{all-set, all-push}
 use Rattle.std.specs.declared.option.Option.{Option}
 use Rattle.std.specs.declared.option.Option.the-variants.{Some, None}
-use Rattle.refusal.specs.Told.{granted}
+use Rattle.refusal.specs.Labels.{granted}
 use Rattle.bank.specs.declared.hold_back.HeldCell.{HeldCell}
 use Rattle.bank.specs.declared.hold_back.HoldBack.{HoldBack}
-use Rattle.bank.specs.Cells.{Word, reading, Kept}
-use Rattle.bank.specs.Holding.{held-cell, held-by, place-of, replaced, length-replaced, staying, surplus, stored-at, stored, overflow-at, overflow, Held-fit}
-use Rattle.bank.proofs.Held.{blank, absent-cell, found-cell, found-set, found-here, place-within, replaced-append}
+use Rattle.bank.specs.Cells.{Fits-word, reading, Preserved}
+use Rattle.bank.specs.Holding.{held-cell, held-by, place-of, replaced, length-replaced, staying, surplus, stored-at, stored, overflow-at, overflow, Sound-held, Hold-sound}
+use Rattle.bank.proofs.Held.{blank, absent-cell, found-cell, found-set, found-here, place-within, replaced-append, apart-set, apart-push}
 use Rattle.bank.proofs.Replies.{reading-in}
 
 -- Keeping, where the number of cells below is the same.
-pub hold-kept : {B : Type 0} (cells : B → List ℕ) {sound : B → Type 0} {outside : B → List (List ℕ)} {fixed : B → List ℕ} {h h′ : HoldBack B} → length (cells (h′ .below)) ≡ length (cells (h .below)) → (Held-fit (length (cells (h .below))) (held-by h) → Held-fit (length (cells (h .below))) (held-by h′)) → Kept sound outside fixed (h .below) (h′ .below) → Kept (λ (k : HoldBack B). sound (k .below) × Held-fit (length (cells (k .below))) (held-by k)) (λ (k : HoldBack B). outside (k .below)) (λ (k : HoldBack B). fixed (k .below)) h h′
-hold-kept cells {h′ = h′} same fit kept = record { soundness = λ s. (kept .soundness (s .0), subst (λ n. Held-fit n (held-by h′)) (sym same) (fit (s .1))); unmoved = kept .unmoved; unaltered = kept .unaltered }
+pub hold-kept : {B : Type 0} (cells : B → List ℕ) {sound : B → Type 0} {outside : B → List (List ℕ)} {fixed : B → List ℕ} {h h′ : HoldBack B} → length (cells (h′ .below)) ≡ length (cells (h .below)) → (Sound-held (length (cells (h .below))) (held-by h) → Sound-held (length (cells (h .below))) (held-by h′)) → Preserved sound outside fixed (h .below) (h′ .below) → Preserved (Hold-sound sound cells) (λ (k : HoldBack B). outside (k .below)) (λ (k : HoldBack B). fixed (k .below)) h h′
+hold-kept cells {h′ = h′} same fit kept = record { soundness = λ s. (kept .soundness (s .0), subst (λ n. Sound-held n (held-by h′)) (sym same) (fit (s .1))); unmoved = kept .unmoved; unaltered = kept .unaltered }
 
 pub place-below : (slots : List HeldCell) (count cell i : ℕ) → place-of (take (min count 8) slots) cell ≡ Some i → i < 8
 place-below slots count cell i e = omega (arith, place-within (take (min count 8) slots) cell i e, length-take (min count 8) slots)
@@ -57,12 +57,13 @@ split-by false hs cells = refl
 pub staying-surplus : (hs : List HeldCell) (cells : List ℕ) → replaced (staying hs) (replaced (surplus hs) cells) ≡ replaced hs cells
 staying-surplus hs cells = split-by (ltb (length hs) 8) hs cells
 
-fit-by : (b : Bool) (n : ℕ) (hs : List HeldCell) → Held-fit n hs → Held-fit n (cond b hs [])
-fit-by true n hs f = f
-fit-by false n hs f = tt
+sound-by : (b : Bool) (n : ℕ) (hs : List HeldCell) → Sound-held n hs → Sound-held n (cond b hs [])
+sound-by true n hs s = s
+sound-by false n hs s = record { fit = tt; apart = tt }
 
-pub staying-fit : (n : ℕ) (hs : List HeldCell) → Held-fit n hs → Held-fit n (staying hs)
-staying-fit n hs f = fit-by (ltb (length hs) 8) n hs f
+absent-by : (b : Bool) (hs : List HeldCell) (cell : ℕ) → place-of hs cell ≡ None → place-of (cond b hs []) cell ≡ None
+absent-by true hs cell e = e
+absent-by false hs cell e = refl
 
 stored-cells-at : (o : Option ℕ) (hs : List HeldCell) (cells : List ℕ) (i v : ℕ) → place-of hs i ≡ o → replaced (stored-at o hs (held-cell i v)) (replaced (overflow-at o hs) cells) ≡ set (replaced hs cells) i v
 stored-cells-at (Some k) hs cells i v e = found-set hs cells i k v e
@@ -72,12 +73,14 @@ stored-cells-at None hs cells i v e = replaced-append (staying hs) (held-cell i 
 pub stored-cells : (hs : List HeldCell) (cells : List ℕ) (i v : ℕ) → replaced (stored hs i v) (replaced (overflow hs i) cells) ≡ set (replaced hs cells) i v
 stored-cells hs cells i v = stored-cells-at (place-of hs i) hs cells i v refl
 
-stored-fit-at : (o : Option ℕ) (n : ℕ) (hs : List HeldCell) (i v : ℕ) → i < n → Word v → Held-fit n hs → Held-fit n (stored-at o hs (held-cell i v))
-stored-fit-at (Some k) n hs i v lt w f = all-set (λ h. (h .cell < n) × Word (h .value)) hs k (held-cell i v) (lt, w) f
-stored-fit-at None n hs i v lt w f = all-push (λ h. (h .cell < n) × Word (h .value)) (staying hs) (held-cell i v) (staying-fit n hs f) (lt, w)
+stored-sound-at : (o : Option ℕ) (n : ℕ) (hs : List HeldCell) (i v : ℕ) → place-of hs i ≡ o → i < n → Fits-word v → Sound-held n hs → Sound-held n (stored-at o hs (held-cell i v))
+stored-sound-at (Some k) n hs i v e lt w s = record { fit = all-set (λ h. (h .cell < n) × Fits-word (h .value)) hs k (held-cell i v) (lt, w) (s .fit); apart = apart-set hs i k v e (s .apart) }
+stored-sound-at None n hs i v e lt w s =
+    let t = sound-by (ltb (length hs) 8) n hs s in
+    record { fit = all-push (λ h. (h .cell < n) × Fits-word (h .value)) (staying hs) (held-cell i v) (t .fit) (lt, w); apart = apart-push (staying hs) i v (absent-by (ltb (length hs) 8) hs i e) (t .apart) }
 
-pub stored-fit : (n : ℕ) (hs : List HeldCell) (i v : ℕ) → i < n → Word v → Held-fit n hs → Held-fit n (stored hs i v)
-stored-fit n hs i v = stored-fit-at (place-of hs i) n hs i v
+pub stored-sound : (n : ℕ) (hs : List HeldCell) (i v : ℕ) → i < n → Fits-word v → Sound-held n hs → Sound-held n (stored hs i v)
+stored-sound n hs i v = stored-sound-at (place-of hs i) n hs i v refl
 
 -- A held cell takes the value in its slot.
 pub slot-stored : (slots : List HeldCell) (n i v k : ℕ) → place-of (take n slots) i ≡ Some k → take n (set slots k (held-cell (getD slots k blank .cell) v)) ≡ stored (take n slots) i v

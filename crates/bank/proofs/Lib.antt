@@ -1,6 +1,7 @@
 mod Held
 mod Holds
+mod Order
 pub mod Replies
-pub mod Rows
+mod Rows
 pub mod Ways
-pub mod Windows
+mod Windows

@@ -10,7 +10,7 @@ use lib.Dec.{leb}
 use mathlib.Core.Logic.{⊎-elim}
 use Rattle.std.proofs.shelf.Tests.{cond-true, cond-both, and-parts, leb-true, cases-lt}
 use Rattle.std.proofs.shelf.Ways.{tells}
-use Rattle.bank.specs.Cells.{Word}
+use Rattle.bank.specs.Cells.{Fits-word}
 use Rattle.bank.specs.Rows.{admitted, row-cells, row-outside, Sound-row}
 
 pub admitted-in : (n : ℕ) → 0 < n → n ≤ 4048 → admitted n ≡ true
@@ -29,5 +29,5 @@ cells-beyond row i h =
     (λ e. let few = leb-true (length row) 4048 (and-parts (leb 1 (length row)) (leb (length row) 4048) e .1) in ⊎-elim (λ lt. absurd (omega (arith, h lt))) (λ le. le) (cases-lt i (length row)))
     (λ _. omega arith)
 
-pub sound-set : (row : List ℕ) (i v : ℕ) → Word v → Sound-row row → Sound-row (set row i v)
-sound-set row i v w s = record { length-right = ap admitted (length-set row i v) ∙ s .length-right; words = all-set Word row i v w (s .words) }
+pub sound-set : (row : List ℕ) (i v : ℕ) → Fits-word v → Sound-row row → Sound-row (set row i v)
+sound-set row i v w s = record { length-right = ap admitted (length-set row i v) ∙ s .length-right; fitting = all-set Fits-word row i v w (s .fitting) }

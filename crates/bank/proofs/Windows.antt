@@ -9,7 +9,7 @@ use lib.Seq.{getD-take, getD-drop, take-set-lt, drop-set-add}
 use lib.Dec.{ltb}
 use Rattle.std.proofs.shelf.Lists.{take-set-le, drop-set-lt}
 use Rattle.std.proofs.shelf.Ways.{tells}
-use Rattle.refusal.specs.Told.{Reply, granted, declined}
+use Rattle.refusal.specs.Labels.{Reply, granted, declined}
 use Rattle.bank.specs.Cells.{reading, writing}
 use Rattle.bank.specs.Windows.{windowed, beside}
 

@@ -1,5 +1,5 @@
 -- Cells held back over a bank below. Assumes nothing.
-use mathlib.Core.Path.{_≡_, refl, subst, sym, _∙_}
+use mathlib.Core.Path.{_≡_, refl, _∙_}
 use mathlib.Core.List.{List, [], _∷_, _++_}
 use mathlib.Core.Bool.{Bool, cond}
 use Prim.Native.Nat.{ℕ, suc, _<_, _≤_, min}
@@ -12,8 +12,9 @@ use Rattle.std.specs.shelf.Lists.{All}
 use Rattle.std.proofs.shelf.Elements.{all-set}
 use Rattle.bank.specs.declared.hold_back.HeldCell.{HeldCell}
 use Rattle.bank.specs.declared.hold_back.HoldBack.{HoldBack}
-use Rattle.bank.specs.Cells.{Word, Words, Star}
+use Rattle.bank.specs.Cells.{Fits-word, Fit-words, Star, Moved-by}
 
+-- A cell with the value held for it.
 abbrev pub held-cell : ℕ → ℕ → HeldCell
 held-cell cell value = record { cell = cell; value = value }
 
@@ -64,9 +65,24 @@ overflow-at None hs = surplus hs
 abbrev pub overflow : List HeldCell → ℕ → List HeldCell
 overflow hs cell = overflow-at (place-of hs cell) hs
 
--- Each held cell is one of the n below, and its value a word.
-abbrev pub Held-fit : ℕ → List HeldCell → Type 0
-Held-fit n hs = All (λ h. (h .cell < n) × Word (h .value)) hs
+-- What is held after the writes of a list, one after another.
+abbrev pub taken-in : List HeldCell → List HeldCell → List HeldCell
+taken-in hs [] = hs
+taken-in hs (w ∷ ws) = taken-in (stored hs (w .cell) (w .value)) ws
+
+-- No cell is held twice.
+abbrev pub Apart : List HeldCell → Type 0
+Apart [] = Unit {0}
+Apart (h ∷ hs) = (place-of hs (h .cell) ≡ None) × Apart hs
+
+-- What a sound hold-back holds over a bank of n cells: words for cells that are there, each of them once.
+pub record Sound-held (n : ℕ) (hs : List HeldCell) : Type 0 where
+  pub fit : All (λ h. (h .cell < n) × Fits-word (h .value)) hs
+  pub apart : Apart hs
+
+-- A hold-back is sound where the bank below is, and what it holds.
+abbrev pub Hold-sound : {B : Type 0} → (B → Type 0) → (B → List ℕ) → HoldBack B → Type 0
+Hold-sound sound cells h = sound (h .below) × Sound-held (length (cells (h .below))) (held-by h)
 
 -- The writes of the list, one after another, lead from the one bank to the other.
 abbrev pub Sent : {B : Type 0} → (B → ℕ → ℕ → B → Type 0) → B → List HeldCell → B → Type 0
@@ -84,10 +100,10 @@ pub record Hold-takes {B : Type 0} (cells : B → List ℕ) (idles : B → B →
   pub now-below : cells (h′ .below) ≡ replaced (overflow (held-by h) i) (cells (h .below))
   pub way : (b : B) × Star idles (h .below) b × Sent moves b (overflow (held-by h) i) (h′ .below)
 
--- What is held has gone down, in the order in which it came, and the cells are as they were.
-pub record Settled {B : Type 0} (cells : B → List ℕ) (moves : B → ℕ → ℕ → B → Type 0) (h : HoldBack B) (b : B) : Type 0 where
-  pub now-below : cells b ≡ replaced (held-by h) (cells (h .below))
-  pub way : Sent moves (h .below) (held-by h) b
+-- What was held has gone down to the bank b, in the order in which it came, and b has the cells that the hold-back meant.
+pub record Sent-down {B : Type 0} (cells : B → List ℕ) (idles : B → B → Type 0) (takes : B → ℕ → ℕ → B → Type 0) (h : HoldBack B) (b : B) : Type 0 where
+  pub now-below : cells b ≡ held-over cells h
+  pub way : Sent (Moved-by cells idles takes) (h .below) (held-by h) b
 
 pub length-replaced : (hs : List HeldCell) (cells : List ℕ) → length (replaced hs cells) ≡ length cells
 length-replaced [] cells = refl
@@ -96,7 +112,6 @@ length-replaced (h ∷ hs) cells = length-replaced hs (set cells (h .cell) (h .v
 pub replaced-few : (hs : List HeldCell) (cells : List ℕ) → length cells ≤ 4048 → length (replaced hs cells) ≤ 4048
 replaced-few hs cells few = rw (length-replaced hs cells) few
 
-pub replaced-words : (hs : List HeldCell) (cells : List ℕ) → Words cells → Held-fit (length cells) hs → Words (replaced hs cells)
-replaced-words [] cells w f = w
-replaced-words (h ∷ hs) cells w f =
-    replaced-words hs (set cells (h .cell) (h .value)) (all-set Word cells (h .cell) (h .value) (f .0 .1) w) (subst (λ n. Held-fit n hs) (sym (length-set cells (h .cell) (h .value))) (f .1))
+pub replaced-words : (hs : List HeldCell) (cells : List ℕ) (n : ℕ) → Fit-words cells → All (λ h. (h .cell < n) × Fits-word (h .value)) hs → Fit-words (replaced hs cells)
+replaced-words [] cells n w f = w
+replaced-words (h ∷ hs) cells n w f = replaced-words hs (set cells (h .cell) (h .value)) n (all-set Fits-word cells (h .cell) (h .value) (f .0 .1) w) (f .1)

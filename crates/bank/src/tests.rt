@@ -33,12 +33,15 @@ fn cell_7_of_8_is_the_last() -> Result<(), Fail> {
 #[test]
 fn a_window_ends_at_4048() -> Result<(), Fail> {
     check(Span::new(4048, 0).is_ok())?;
-    check(Span::new(4048, 1).is_err())?;
+    check_eq(Span::new(4048, 1).err(), Some(Refusal::WindowBeyondLimit))?;
     check(Span::new(0, 4048).is_ok())?;
-    check(Span::new(1, usize::MAX).is_err())
+    check_eq(
+        Span::new(1, usize::MAX).err(),
+        Some(Refusal::WindowBeyondLimit),
+    )
 }
 
-// A window of four cells from the sixth on, over a bank of eight.
+// A window of four cells from cell 6 on, over a bank of eight.
 fn shown<B: Bank + Drop>(bank: B) -> Result<(), Fail> {
     let mut window = Window::new(bank, Span::new(6, 4)?);
     check_eq(window.size(), 2)?;

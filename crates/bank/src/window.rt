@@ -36,7 +36,7 @@ pub impl<B: Bank> Bank for Window<B> as WindowBank {
 
     ghost sound = { λ w. B·Bank .sound (w .below) };
 
-    ghost words = { λ w s. windowed-words (w .span .first) (w .span .length) (B·Bank .cells (w .below)) (B·Bank .words (w .below) s) };
+    ghost fitting = { λ w s. windowed-words (w .span .first) (w .span .length) (B·Bank .cells (w .below)) (B·Bank .fitting (w .below) s) };
 
     ghost outside = { λ w. beside (w .span .first) (w .span .length) (B·Bank .cells (w .below)) (B·Bank .outside (w .below)) };
 

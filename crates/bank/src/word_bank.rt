@@ -3,15 +3,13 @@ ghost use mathlib.Core.List.{[], _∷_};
 ghost use mathlib.Core.Path.{_≡_};
 ghost use lib.ListN.{length, set};
 ghost use denote.Ref.{now, name};
-ghost use Rattle.refusal.specs.Told.{told, tells};
+ghost use Rattle.refusal.specs.Labels.{label-of, labelled, reply-of};
 ghost use Rattle.std.specs.Results.{Cases};
-ghost use Rattle.bank.specs.Cells.{Words};
-ghost use Rattle.bank.specs.Rows.{admitted, row-cells, row-outside, Sound-row, row-few, row-words};
+ghost use Rattle.bank.specs.Cells.{Fit-words};
+ghost use Rattle.bank.specs.Rows.{admitted, admitting, row-cells, row-outside, Sound-row, row-few, row-words};
 use super::Bank;
+use super::MOST;
 use refusal::Refusal;
-
-// The most cells that a bank may have.
-const MOST: usize = 4048;
 
 // A bank over a lent row of 1 to 4,048 words.
 #[derive(Drop)]
@@ -21,7 +19,7 @@ pub struct WordBank<'a> {
 
 // That every element of a `&[u16]` is a word is known once one of them is read.
 fn first_word(row: &[u16]) -> u16
-    ensures { λ _. ⌜ Words (now (row .entry)) ⌝ }
+    ensures { λ _. ⌜ Fit-words (now (row .entry)) ⌝ }
 {
     if row.len() > 0 { row[0] } else { 0 }
 }
@@ -29,7 +27,7 @@ fn first_word(row: &[u16]) -> u16
 impl<'a> WordBank<'a> {
     // May a row of this length be a bank?
     pub fn admits(row: &[u16]) -> Result<(), Refusal>
-        ensures { λ r. ⌜ Cases r (λ _. admitted (length (now (row .entry))) ≡ true) (λ e. (told e ≡ tells 8 []) × (admitted (length (now (row .entry))) ≡ false)) ⌝ }
+        ensures { λ r. ⌜ reply-of r ≡ admitting (length (now (row .entry))) ⌝ }
     {
         if row.len() == 0 || row.len() > MOST {
             return Err(Refusal::LengthNotAdmitted);
@@ -41,7 +39,7 @@ impl<'a> WordBank<'a> {
     pub fn new(row: &'a mut [u16]) -> WordBank<'a>
         ensures row { λ r. ⌜ now (r .row) ≡ now (row .entry) ⌝ }
         ensures place { λ r. ⌜ name (r .row) ≡ name (row .entry) ⌝ }
-        ensures words { λ r. ⌜ Words (now (r .row)) ⌝ }
+        ensures fitting { λ r. ⌜ Fit-words (now (r .row)) ⌝ }
     {
         let _ = first_word(row);
         WordBank { row }
@@ -49,7 +47,7 @@ impl<'a> WordBank<'a> {
 
     // `admits` and `new` in one. The caller learns of the row from the bank alone.
     pub fn over(row: &'a mut [u16]) -> Result<WordBank<'a>, Refusal>
-        ensures { λ r. ⌜ Cases r (λ b. (now (b .row) ≡ now (row .entry)) × (name (b .row) ≡ name (row .entry)) × Sound-row (now (b .row))) (λ e. (told e ≡ tells 8 []) × (admitted (length (now (row .entry))) ≡ false)) ⌝ }
+        ensures { λ r. ⌜ Cases r (λ b. (now (b .row) ≡ now (row .entry)) × (name (b .row) ≡ name (row .entry)) × Sound-row (now (b .row))) (λ e. (label-of e ≡ labelled 8 []) × (admitted (length (now (row .entry))) ≡ false)) ⌝ }
     {
         WordBank::admits(row)?;
         Ok(WordBank::new(row))
@@ -72,7 +70,7 @@ pub impl<'a> Bank for WordBank<'a> as WordBankBank {
 
     ghost sound = { λ b. Sound-row (now (b .row)) };
 
-    ghost words = { λ b s. row-words (now (b .row)) s };
+    ghost fitting = { λ b s. row-words (now (b .row)) s };
 
     ghost outside = { λ b. row-outside (now (b .row)) ∷ [] };
 

@@ -5,7 +5,7 @@ use std::alloc::AllocError;
 use std::alloc::Global;
 
 // The longest row that can be asked for.
-const LONGEST: usize = 5000;
+pub(crate) const LONGEST: u16 = 5000;
 
 // How many digits a field may have.
 const DIGITS: usize = 20;
@@ -39,34 +39,35 @@ impl Kind {
 
 // Where a window is asked to lie. It may reach beyond the limit.
 #[derive(Clone, Copy)]
-pub struct Frame {
+pub struct AskedSpan {
     first: usize,
     length: usize,
 }
 
-impl Frame {
+impl AskedSpan {
     pub(crate) fn span(&self) -> Result<Span, Refusal> {
         Span::new(self.first, self.length)
     }
 }
 
-// A pile that is asked for. Its only window, or the lower of two, has the frame `lower`.
+// A pile that is asked for. Its only window, or the lower of two, has the span `lower`.
 #[derive(Clone, Copy)]
 pub struct Plan {
     pub kind: Kind,
     pub length: u16,
-    pub lower: Frame,
-    pub upper: Frame,
+    pub lower: AskedSpan,
+    pub upper: AskedSpan,
 }
 
 impl Plan {
-    fn new(kind: usize, length: usize, lower: Frame, upper: Frame) -> Option<Plan> {
+    fn new(kind: usize, length: usize, lower: AskedSpan, upper: AskedSpan) -> Option<Plan> {
+        let length = u16::try_from(length).ok()?;
         if length > LONGEST {
             return None;
         }
         Some(Plan {
             kind: Kind::numbered(kind)?,
-            length: length as u16,
+            length,
             lower,
             upper,
         })
@@ -111,11 +112,11 @@ impl Line {
 fn action(letter: u8, numbers: &[usize]) -> Option<Line> {
     match (letter, numbers) {
         (b'p', [kind, length, f1, n1, f2, n2]) => {
-            let lower = Frame {
+            let lower = AskedSpan {
                 first: *f1,
                 length: *n1,
             };
-            let upper = Frame {
+            let upper = AskedSpan {
                 first: *f2,
                 length: *n2,
             };

@@ -13,10 +13,10 @@ use line::Plan;
 use pile::Shape;
 use pile::Turn;
 use refusal::Refusal;
+use reply::Answer;
+use reply::AnswerDisplay;
 use reply::Listing;
 use reply::ListingDisplay;
-use reply::Reply;
-use reply::ReplyDisplay;
 use std::io;
 use std::io::BufRead;
 use std::io::BufReader;
@@ -24,13 +24,13 @@ use std::io::Read;
 use top::WordBankTop;
 
 // How many bytes of the input are read.
-const MOST: u64 = 1_048_576;
+const INPUT_LIMIT: u64 = 1_048_576;
 
 // Every line of the input.
 fn read_lines(rt: &LibcRuntime) -> io::Result<Vec<Line>> {
     let heap = rt.alloc();
     let mut lines = Vec::new(heap);
-    let input = BufReader::new(rt.stdin().take(MOST));
+    let input = BufReader::new(rt.stdin().take(INPUT_LIMIT));
     for text in input.split(heap, b'\n') {
         lines.push(Line::read(heap, text?.as_slice())?)?;
     }
@@ -50,14 +50,14 @@ fn stand(plan: &Plan, turn: Turn) -> io::Result<bool> {
     let mut row = made.clone()?;
     match admit(plan, row.as_slice()) {
         Ok(shape) => {
-            turn.rt.println(Reply::Pile)?;
+            turn.rt.println(Answer::Pile)?;
             turn.on(WordBank::new(row.as_mut_slice()), shape)?;
             let changed = row::changes(heap, made.as_slice(), row.as_slice())?;
             turn.rt.println(Listing::new("row", changed.as_slice()))?;
             Ok(true)
         }
         Err(refusal) => {
-            turn.rt.println(Reply::Refused(refusal))?;
+            turn.rt.println(Answer::Refused(refusal))?;
             Ok(false)
         }
     }
@@ -75,8 +75,8 @@ fn answer<'a>(rt: &'a LibcRuntime, all: &'a [Line]) -> io::Result<()> {
             Line::TakeApart if stands => stands = false,
             // The pile has answered it.
             _ if stands => {}
-            Line::NotAnAction => rt.println(Reply::NotAnAction)?,
-            Line::Asks(_) | Line::TakeApart => rt.println(Reply::NoPile)?,
+            Line::NotAnAction => rt.println(Answer::NotAnAction)?,
+            Line::Asks(_) | Line::TakeApart => rt.println(Answer::NoPile)?,
         }
     }
     Ok(())

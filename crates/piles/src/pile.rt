@@ -3,10 +3,10 @@ use super::line::Ask;
 use super::line::Kind;
 use super::line::Line;
 use super::line::Plan;
+use super::reply::Answer;
+use super::reply::AnswerDisplay;
 use super::reply::Listing;
 use super::reply::ListingDisplay;
-use super::reply::Reply;
-use super::reply::ReplyDisplay;
 use super::top::HoldBackTop;
 use super::top::Top;
 use super::top::WindowTop;
@@ -62,7 +62,7 @@ impl Turn<'_> {
         for line in self.lines {
             match *line {
                 Line::Asks(ask) => reply(self.rt, bank, ask)?,
-                Line::NotAnAction => self.rt.println(Reply::NotAnAction)?,
+                Line::NotAnAction => self.rt.println(Answer::NotAnAction)?,
                 Line::Pile(_) | Line::TakeApart => return Ok(()),
             }
         }
@@ -117,24 +117,24 @@ fn reply<B: Bank + Top>(rt: &LibcRuntime, bank: &mut B, ask: Ask) -> io::Result<
         Ask::Held => rt.println(Listing::new("held", bank.held_on_top())),
         Ask::Settle => {
             bank.settle_top();
-            rt.println(Reply::Settled)
+            rt.println(Answer::Settled)
         }
-        Ask::Size => rt.println(Reply::Size(bank.size())),
+        Ask::Size => rt.println(Answer::Size(bank.size())),
         Ask::Read { cell } => rt.println(read(bank, cell)),
         Ask::Write { cell, value } => rt.println(written(bank, cell, value)),
     }
 }
 
-fn read<B: Bank>(bank: &mut B, cell: usize) -> Reply {
+fn read<B: Bank>(bank: &mut B, cell: usize) -> Answer {
     match bank.read(cell) {
-        Ok(value) => Reply::Value(value),
-        Err(refusal) => Reply::Refused(refusal),
+        Ok(value) => Answer::Value(value),
+        Err(refusal) => Answer::Refused(refusal),
     }
 }
 
-fn written<B: Bank>(bank: &mut B, cell: usize, value: u16) -> Reply {
+fn written<B: Bank>(bank: &mut B, cell: usize, value: u16) -> Answer {
     match bank.write(cell, value) {
-        Ok(()) => Reply::Written,
-        Err(refusal) => Reply::Refused(refusal),
+        Ok(()) => Answer::Written,
+        Err(refusal) => Answer::Refused(refusal),
     }
 }

@@ -6,7 +6,7 @@ use std::fmt;
 
 // The answer to one line.
 #[derive(Clone, Copy)]
-pub enum Reply {
+pub enum Answer {
     Pile,
     Size(usize),
     Value(u16),
@@ -17,17 +17,17 @@ pub enum Reply {
     NotAnAction,
 }
 
-pub impl fmt::Display for Reply as ReplyDisplay {
+pub impl fmt::Display for Answer as AnswerDisplay {
     fn fmt<W: fmt::Write>(&self, f: &mut fmt::Formatter<W>) -> fmt::Result {
         match *self {
-            Reply::Pile => write!(f, "pile"),
-            Reply::Size(cells) => write!(f, "size {cells}"),
-            Reply::Value(value) => write!(f, "{value}"),
-            Reply::Written => write!(f, "ok"),
-            Reply::Settled => write!(f, "settled"),
-            Reply::Refused(refusal) => write!(f, "{refusal}"),
-            Reply::NoPile => write!(f, "no pile"),
-            Reply::NotAnAction => write!(f, "not an action"),
+            Answer::Pile => write!(f, "pile"),
+            Answer::Size(cells) => write!(f, "size {cells}"),
+            Answer::Value(value) => write!(f, "{value}"),
+            Answer::Written => write!(f, "ok"),
+            Answer::Settled => write!(f, "settled"),
+            Answer::Refused(refusal) => write!(f, "{refusal}"),
+            Answer::NoPile => write!(f, "no pile"),
+            Answer::NotAnAction => write!(f, "not an action"),
         }
     }
 }

@@ -1,4 +1,5 @@
 // The row of words that a pile stands on.
+use super::line::LONGEST;
 use bank::HeldCell;
 use std::alloc::AllocError;
 use std::alloc::Global;
@@ -6,8 +7,8 @@ use std::alloc::Global;
 // A row as it is made for a pile.
 pub(crate) fn fresh(heap: Global, length: u16) -> Result<Vec<u16>, AllocError> {
     let mut row = Vec::new(heap);
-    for i in 0..length {
-        row.push(i.wrapping_mul(7).wrapping_add(3))?;
+    for i in 0..length.min(LONGEST) {
+        row.push(i * 7 + 3)?;
     }
     Ok(row)
 }

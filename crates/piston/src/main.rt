@@ -19,8 +19,8 @@ const FIRST: usize = 4;
 
 const CELLS: usize = 40;
 
-// Every cell of this combination is its number times 257: the flags of one stop in each half of the word.
-fn full_organ() -> [u16; CELLS] {
+// A combination that tells its cells apart: cell i has i in both bytes.
+fn numbered() -> [u16; CELLS] {
     let mut piston = [0; CELLS];
     for i in 0..CELLS {
         piston[i] = (i as u16) * 257;
@@ -90,18 +90,22 @@ fn run(rt: &LibcRuntime) -> Result<(), AnyError> {
     let mut row = [1; FIRST + CELLS + 4];
     print_row(rt, &row)?;
     let span = Span::new(FIRST, CELLS)?;
-    play(rt, WordBank::over(&mut row)?, span, &full_organ())?;
+    play(rt, WordBank::over(&mut row)?, span, &numbered())?;
     print_row(rt, &row)?;
     // The general cancel, and one cell too many.
     let whole = Span::new(0, 4048)?;
     let cancel = [0; CELLS];
-    print_press(rt, CELLS, layers::press_row(&mut row, whole, span, &cancel))?;
+    print_press(
+        rt,
+        CELLS,
+        combination::press_row(&mut row, whole, span, &cancel),
+    )?;
     print_row(rt, &row)?;
     let too_many = [2; CELLS + 1];
     print_press(
         rt,
         CELLS + 1,
-        layers::press_row(&mut row, whole, span, &too_many),
+        combination::press_row(&mut row, whole, span, &too_many),
     )?;
     print_row(rt, &row)?;
     Ok(())

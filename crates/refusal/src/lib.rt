@@ -1,6 +1,6 @@
 // The numbered refusals of the whole library.
 ghost use mathlib.Core.Path.{_≡_};
-ghost use Rattle.refusal.specs.Told.{told, text};
+ghost use Rattle.refusal.specs.Labels.{label-of, text-of};
 ghost use Rattle.std.specs.declared.option.Option.the-variants.{Some};
 use std::error::Error;
 use std::fmt;
@@ -25,7 +25,7 @@ pub enum Refusal {
 
 impl Refusal {
     pub fn number(&self) -> u8
-        ensures { λ r. ⌜ r ≡ told (now (self .entry)) .number ⌝ }
+        ensures { λ r. ⌜ r ≡ label-of (now (self .entry)) .number ⌝ }
     {
         match *self {
             Refusal::NoSuchClient => 1,
@@ -46,7 +46,7 @@ impl Refusal {
 }
 
 pub impl fmt::Display for Refusal as RefusalDisplay {
-    ghost shown = { λ e. Some (text e) };
+    ghost shown = { λ e. Some (text-of e) };
 
     fn fmt<W: fmt::Write>(&self, f: &mut fmt::Formatter<W>) -> fmt::Result {
         let n = self.number();

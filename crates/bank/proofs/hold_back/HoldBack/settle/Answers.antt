@@ -5,10 +5,11 @@ use native.Mathlib.Omega.{arith}
 use Prim.Native.Nat.{ℕ, min, _<_}
 use lib.ListN.{length, getD, set, take}
 use Rattle.bank.specs.declared.hold_back.HeldCell.{HeldCell}
-use Rattle.bank.specs.Cells.{Moves}
+use Rattle.bank.specs.Cells.{Moved-by}
 use Rattle.bank.specs.Holding.{replaced, Sent}
 use Rattle.bank.proofs.Held.{blank, replaced-more}
-use Rattle.bank.proofs.Ways.{kept-then, sent-more}
+use Rattle.bank.proofs.Replies.{written-set}
+use Rattle.bank.proofs.Ways.{preserved-then, sent-more}
 use Rattle.bank.proofs.hold_back.HoldBack.settle.Needs as need
 
 pub loop-i-holds : need.loop-i-holds
@@ -23,9 +24,9 @@ loop-i-again g c =
     let e = c .write .ensures in
     let lt : i < length hs = search needs in (
       same,
-      e .after ∙ ap (λ (ks : List HeldCell). set (g .B·Bank .cells (c .loop-i .self .below)) (getD ks i blank .cell) (getD ks i blank .value)) same ∙ ap (λ cells. set cells (getD hs i blank .cell) (getD hs i blank .value)) (c .loop-i .inv .1) ∙ sym (replaced-more hs i (g .B·Bank .cells b) lt),
-      kept-then (c .loop-i .inv .2) (e .kept),
-      sent-more (Moves (g .B·Bank .cells) (g .B·Bank .idles) (g .B·Bank .takes)) b hs i (c .loop-i .self .below) (c .write .last .self) lt (c .loop-i .inv .3) (subst (λ (ks : List HeldCell). Moves (g .B·Bank .cells) (g .B·Bank .idles) (g .B·Bank .takes) (c .loop-i .self .below) (getD ks i blank .cell) (getD ks i blank .value) (c .write .last .self)) same (e .moved)),
+      e .after ∙ written-set (g .B·Bank .cells (c .loop-i .self .below)) _ _ ∙ ap (λ (ks : List HeldCell). set (g .B·Bank .cells (c .loop-i .self .below)) (getD ks i blank .cell) (getD ks i blank .value)) same ∙ ap (λ cells. set cells (getD hs i blank .cell) (getD hs i blank .value)) (c .loop-i .inv .1) ∙ sym (replaced-more hs i (g .B·Bank .cells b) lt),
+      preserved-then (c .loop-i .inv .2) (e .kept),
+      sent-more (Moved-by (g .B·Bank .cells) (g .B·Bank .idles) (g .B·Bank .takes)) b hs i (c .loop-i .self .below) (c .write .last .self) lt (c .loop-i .inv .3) (subst (λ (ks : List HeldCell). Moved-by (g .B·Bank .cells) (g .B·Bank .idles) (g .B·Bank .takes) (c .loop-i .self .below) (getD ks i blank .cell) (getD ks i blank .value) (c .write .last .self)) same (e .moved)),
     )
 
 pub returns : need.returns
@@ -37,7 +38,7 @@ returns g c =
     record {
       settled = record {
         now-below = sent;
-        way = subst (λ (n : ℕ). Sent (Moves (g .B·Bank .cells) (g .B·Bank .idles) (g .B·Bank .takes)) b (take n hs) (c .loop-i .self .below)) e (c .loop-i .inv .3);
+        way = subst (λ (n : ℕ). Sent (Moved-by (g .B·Bank .cells) (g .B·Bank .idles) (g .B·Bank .takes)) b (take n hs) (c .loop-i .self .below)) e (c .loop-i .inv .3);
       };
       kept = c .loop-i .inv .2;
       held = refl;

@@ -8,7 +8,7 @@ use Rattle.bank.specs.Cells.{none, more, reading}
 use Rattle.bank.specs.Holding.{held-by, place-of, replaced, length-replaced}
 use Rattle.bank.proofs.Holds.{hold-kept, place-below, found-reading, absent-reading}
 use Rattle.bank.proofs.Replies.{reading-out}
-use Rattle.bank.proofs.Ways.{kept-then}
+use Rattle.bank.proofs.Ways.{preserved-then}
 use Rattle.bank.proofs.hold_back.HoldBackBank.read.Needs as need
 
 pub returns-then-cell-size : need.returns-then-cell-size
@@ -29,7 +29,7 @@ returns-in-Some g c =
     let h = c .args .self .now in
     let cells = g .B·Bank .cells (h .below) in
     let e = c .size .ensures in
-    let place : place-of (held-by h) (c .args .cell) ≡ Some (c .in-Some .i) = ap (λ hs. place-of hs (c .args .cell)) (sym (c .held .ensures .value)) ∙ sym (c .in-Some .ensures tt) in
+    let place : place-of (held-by h) (c .args .cell) ≡ Some (c .in-Some .i) = ap (λ hs. place-of hs (c .args .cell)) (sym (c .held .ensures)) ∙ sym (c .newest-place .ensures) ∙ c .in-Some .is in
     record {
       value = found-reading (h .slots) (min (h .count) 8) cells (c .args .cell) (c .in-Some .i) place (omega arith);
       same = ap (replaced (held-by h)) (e .same);
@@ -44,16 +44,16 @@ returns-in-None g c =
     let e = c .size .ensures in
     let r = c .read .ensures in
     let same = r .same ∙ e .same in
-    let place : place-of (held-by h) (c .args .cell) ≡ None = ap (λ hs. place-of hs (c .args .cell)) (sym (c .held .ensures .value)) ∙ sym (c .in-None .ensures tt) in
+    let place : place-of (held-by h) (c .args .cell) ≡ None = ap (λ hs. place-of hs (c .args .cell)) (sym (c .held .ensures)) ∙ sym (c .newest-place .ensures) ∙ c .in-None .is in
     record {
       value = r .value ∙ ap (λ xs. reading xs (c .args .cell)) (e .same) ∙ absent-reading (held-by h) cells (c .args .cell) place (omega arith);
       same = ap (replaced (held-by h)) same;
-      kept = hold-kept (g .B·Bank .cells) (ap length same) (λ f. f) (kept-then (e .kept) (r .kept));
+      kept = hold-kept (g .B·Bank .cells) (ap length same) (λ f. f) (preserved-then (e .kept) (r .kept));
       idle = record { same-held = refl; same-below = same; way = more (e .idle) (more (r .idle) none) };
     }
 
 pub index-self-i : need.index-self-i
-index-self-i g c = place-below (c .args .self .now .slots) (c .args .self .now .count) (c .args .cell) (c .in-Some .i) (ap (λ hs. place-of hs (c .args .cell)) (sym (c .held .ensures .value)) ∙ sym (c .in-Some .ensures tt))
+index-self-i g c = place-below (c .args .self .now .slots) (c .args .self .now .count) (c .args .cell) (c .in-Some .i) (ap (λ hs. place-of hs (c .args .cell)) (sym (c .held .ensures)) ∙ sym (c .newest-place .ensures) ∙ c .in-Some .is)
 
 pub offset-self-i : need.offset-self-i
-offset-self-i g c = let below = place-below (c .args .self .now .slots) (c .args .self .now .count) (c .args .cell) (c .in-Some .i) (ap (λ hs. place-of hs (c .args .cell)) (sym (c .held .ensures .value)) ∙ sym (c .in-Some .ensures tt)) in search needs
+offset-self-i g c = let below = place-below (c .args .self .now .slots) (c .args .self .now .count) (c .args .cell) (c .in-Some .i) (ap (λ hs. place-of hs (c .args .cell)) (sym (c .held .ensures)) ∙ sym (c .newest-place .ensures) ∙ c .in-Some .is) in search needs

@@ -16,7 +16,7 @@ returns-then-cell-self g c =
       value = c .read .ensures .value ∙ reading-window (g .B·Bank .cells (w .below)) (w .span .first) (w .span .length) (c .args .cell) (omega arith);
       same = ap (windowed (w .span .first) (w .span .length)) (c .read .ensures .same);
       kept = record { soundness = c .read .ensures .kept .soundness; unmoved = beside-same (w .span .first) (w .span .length) (c .read .ensures .same) (c .read .ensures .kept .unmoved); unaltered = ap (λ ns. w .span .first ∷ w .span .length ∷ ns) (c .read .ensures .kept .unaltered) };
-      idle = record { same-span = refl; below = more (c .read .ensures .idle) none };
+      idle = record { same-span = refl; way = more (c .read .ensures .idle) none };
     }
 
 pub returns-else-cell-self : need.returns-else-cell-self
@@ -28,5 +28,5 @@ returns-else-cell-self g c =
       value = reading-out cells (c .args .cell) beyond;
       same = refl;
       kept = record { soundness = λ s. s; unmoved = refl; unaltered = refl };
-      idle = record { same-span = refl; below = none };
+      idle = record { same-span = refl; way = none };
     }

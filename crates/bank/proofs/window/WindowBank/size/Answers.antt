@@ -14,5 +14,5 @@ returns g c =
       value = simp (length-take, length-drop) (omega arith);
       same = ap (windowed (w .span .first) (w .span .length)) (c .size-n .ensures .same);
       kept = record { soundness = c .size-n .ensures .kept .soundness; unmoved = beside-same (w .span .first) (w .span .length) (c .size-n .ensures .same) (c .size-n .ensures .kept .unmoved); unaltered = ap (λ ns. w .span .first ∷ w .span .length ∷ ns) (c .size-n .ensures .kept .unaltered) };
-      idle = record { same-span = refl; below = more (c .size-n .ensures .idle) none };
+      idle = record { same-span = refl; way = more (c .size-n .ensures .idle) none };
     }

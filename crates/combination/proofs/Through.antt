@@ -1,16 +1,18 @@
 -- A window over a hold-back over a window: the cells below after a pressing from above. Assumes nothing.
-use mathlib.Core.Path.{_≡_, sym, ap, subst, _∙_}
+use mathlib.Core.Path.{_≡_, sym, ap, _∙_}
 use mathlib.Core.List.{List, [], _∷_}
-use Prim.Native.Nat.{ℕ, _+_}
-use lib.ListN.{length, take, drop}
+use mathlib.Core.Bool.{true, cond}
+use native.Mathlib.Omega.{arith}
+use Prim.Native.Nat.{ℕ, _+_, _≤_}
+use lib.ListN.{length, take, drop, length-take, length-drop}
 use Rattle.std.proofs.shelf.Tests.{leb-true}
 use Rattle.bank.specs.declared.HoldBack.{HoldBack}
 use Rattle.bank.specs.declared.Span.{Span}
 use Rattle.bank.specs.declared.Window.{Window}
 use Rattle.bank.specs.Holding.{held-by, replaced}
 use Rattle.bank.specs.Windows.{windowed, beside}
-use Rattle.layers.specs.Laid.{room, seen-through, Pressed}
-use Rattle.layers.proofs.Laying.{pressed-through}
+use Rattle.combination.specs.Pressing.{overwritten, enough, pressed, seen-through}
+use Rattle.combination.proofs.Laying.{pressed-through, laid-pressed, pressed-laid}
 
 module _ {B : Type 0} (cells : B → List ℕ) (outside : B → List (List ℕ)) (fixed : B → List ℕ) where
   abbrev pub low : Window B → List ℕ
@@ -41,7 +43,7 @@ module _ {B : Type 0} (cells : B → List ℕ) (outside : B → List (List ℕ))
     pub high-is : high t ≡ seen-through inner outer (cells bank)
     high-is = ap (windowed (t .span .first) (t .span .length)) mid-is ∙ ap (λ s. windowed (s .first) (s .length) (windowed (inner .first) (inner .length) (cells bank))) outer-is
 
-    pub through : (values : List ℕ) (t′ : Window (HoldBack (Window B))) (w : Window B) → Pressed (room values (high t)) 0 values (high t) (high t′) → high-outside t′ ≡ high-outside t → high-fixed t′ ≡ high-fixed t → low w ≡ mid (t′ .below) → low-outside w ≡ low-outside (t′ .below .below) → low-fixed w ≡ low-fixed (t′ .below .below) → Pressed (room values (seen-through inner outer (cells bank))) (inner .first + outer .first) values (cells bank) (cells (w .below))
+    pub through : (values : List ℕ) (t′ : Window (HoldBack (Window B))) (w : Window B) → high t′ ≡ pressed values (high t) → high-outside t′ ≡ high-outside t → high-fixed t′ ≡ high-fixed t → low w ≡ mid (t′ .below) → low-outside w ≡ low-outside (t′ .below .below) → low-fixed w ≡ low-fixed (t′ .below .below) → cells (w .below) ≡ cond (enough values (seen-through inner outer (cells bank))) (overwritten (inner .first + outer .first) values (cells bank)) (cells bank)
     through values t′ w p unmoved unaltered settled w-unmoved w-unaltered =
         let f1 = inner .first in
         let n1 = inner .length in
@@ -62,7 +64,13 @@ module _ {B : Type 0} (cells : B → List ℕ) (outside : B → List (List ℕ))
         let front2 : take f2 (mid (t′ .below)) ≡ take f2 (windowed f1 n1 (cells bank)) = cc mid-is in
         let behind2 : drop (f2 + n2) (mid (t′ .below)) ≡ drop (f2 + n2) (windowed f1 n1 (cells bank)) = cc mid-is in
         let shown : high t′ ≡ windowed f2 n2 (mid (t′ .below)) = ap (λ k. windowed k (t′ .span .length) (mid (t′ .below))) t1 ∙ ap (λ k. windowed f2 k (mid (t′ .below))) t2 in
-        pressed-through f1 n1 f2 n2 (cells bank) (mid (t′ .below)) (cells (w .below)) (room values S) values middle front1 behind1 front2 behind2 (λ is. leb-true (length values) (length S) is) (subst (Pressed (room values S) 0 values S) shown (subst (λ xs. Pressed (room values xs) 0 values xs (high t′)) high-is p))
+        let on-top : windowed f2 n2 (mid (t′ .below)) ≡ pressed values S = sym shown ∙ p ∙ ap (pressed values) high-is in
+        let fits : enough values S ≡ true → length values ≤ length S = leb-true (length values) (length S) in
+        let shows = length-take n2 (drop f2 (windowed f1 n1 (cells bank))) in
+        let leaves = length-drop f2 (windowed f1 n1 (cells bank)) in
+        let shows-below = length-take n1 (drop f1 (cells bank)) in
+        let leaves-below = length-drop f1 (cells bank) in
+        pressed-laid (enough values S) (f1 + f2) values (cells bank) (cells (w .below)) (λ is i lt. let h = fits is in omega arith) (pressed-through f1 n1 f2 n2 (cells bank) (mid (t′ .below)) (cells (w .below)) (enough values S) values middle front1 behind1 front2 behind2 fits (laid-pressed values S (windowed f2 n2 (mid (t′ .below))) on-top))
 
   module _ (bank : B) (t t′ : Window (HoldBack (Window B))) (w : Window B) (bank-is : t .below .below .below ≡ bank) where
     pub outside-below : high-outside t′ ≡ high-outside t → low-outside w ≡ low-outside (t′ .below .below) → outside (w .below) ≡ outside bank

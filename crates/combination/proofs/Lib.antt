@@ -1,3 +1,3 @@
 mod Laying
-mod Order
 mod Through
+mod Writes

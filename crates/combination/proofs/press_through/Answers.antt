@@ -2,10 +2,10 @@ use mathlib.Core.Path.{_≡_, sym, ap, subst, _∙_}
 use mathlib.Core.List.{[]}
 use Prim.Native.Nat.{_+_}
 use lib.ListN.{length}
-use Rattle.bank.specs.Holding.{held-by, Held-fit}
-use Rattle.layers.specs.Laid.{room, pressing, seen-through, Pressed}
-use Rattle.layers.proofs.Through.{low, mid, low-outside, low-fixed, high-is, through, outside-below, fixed-below}
-use Rattle.layers.proofs.press_through.Needs as need
+use Rattle.bank.specs.Holding.{held-by, Sound-held}
+use Rattle.combination.specs.Pressing.{enough, overwritten, pressing, seen-through}
+use Rattle.combination.proofs.Through.{low, mid, low-outside, low-fixed, high-is, through, outside-below, fixed-below}
+use Rattle.combination.proofs.press_through.Needs as need
 
 pub returns : need.returns
 returns g c =
@@ -32,9 +32,9 @@ returns g c =
     let last = sym (c .finish-3 .ensures) in
     record {
       value = p .value ∙ ap (pressing values) (high-is cells outside fixed bank inner outer t bank-is inner-is held-none (c .new-top .ensures .span));
-      after = subst (λ b. Pressed (room values (seen-through inner outer (cells bank))) (inner .first + outer .first) values (cells bank) (cells b)) last (through cells outside fixed bank inner outer t bank-is inner-is held-none (c .new-top .ensures .span) values t′ w (p .after) (p .kept .unmoved) (p .kept .unaltered) settled w-unmoved w-unaltered);
+      after = sym (ap cells last) ∙ through cells outside fixed bank inner outer t bank-is inner-is held-none (c .new-top .ensures .span) values t′ w (p .after) (p .kept .unmoved) (p .kept .unaltered) settled w-unmoved w-unaltered;
       kept = record {
-        soundness = λ sound. subst (g .B·Bank .sound) last (s .kept .soundness (subst (λ h. g .B·Bank .sound (h .below .below)) (sym handed) (p .kept .soundness (subst (g .B·Bank .sound) (sym bank-is) sound, subst (Held-fit (length (low cells outside fixed (t .below .below)))) (sym held-none) tt) .0)));
+        soundness = λ sound. subst (g .B·Bank .sound) last (s .kept .soundness (subst (λ h. g .B·Bank .sound (h .below .below)) (sym handed) (p .kept .soundness (subst (g .B·Bank .sound) (sym bank-is) sound, subst (Sound-held (length (low cells outside fixed (t .below .below)))) (sym held-none) (record { fit = tt; apart = tt })) .0)));
         unmoved = sym (ap outside last) ∙ outside-below cells outside fixed bank t t′ w bank-is (p .kept .unmoved) w-unmoved;
         unaltered = sym (ap fixed last) ∙ fixed-below cells outside fixed bank t t′ w bank-is (p .kept .unaltered) w-unaltered;
       };
