@@ -7,7 +7,7 @@ use Rattle.std.specs.shelf.Lists.{All}
 use Rattle.bank.specs.declared.hold_back.HeldCell.{HeldCell}
 use Rattle.bank.specs.declared.hold_back.HoldBack.{HoldBack}
 use Rattle.bank.specs.Cells.{Fits-word, Moved-by}
-use Rattle.bank.specs.Holding.{held-by, held-over, length-replaced, stored, overflow, taken-in, Sent, Hold-idles, Hold-takes}
+use Rattle.bank.specs.Holding.{held-by, held-over, length-replaced, overflow, taken-in, Sent, Hold-idles, Hold-takes}
 
 module _ {B : Type 0} (cells : B → List ℕ) (idles : B → B → Type 0) (takes : B → ℕ → ℕ → B → Type 0) where
   abbrev Step : HoldBack B → ℕ → ℕ → HoldBack B → Type 0

@@ -19,9 +19,21 @@ fn rows_of_1_to_4048_words_are_admitted() -> Result<(), Fail> {
 }
 
 #[test]
+fn a_row_that_is_not_admitted_is_handed_back() -> Result<(), Fail> {
+    let mut row = [5; 4049];
+    match WordBank::over(&mut row) {
+        Ok(_) => Err(Fail::new("4,049 words are admitted")),
+        Err((back, refusal)) => {
+            check_eq(back.len(), 4049)?;
+            check_eq(refusal, Refusal::LengthNotAdmitted)
+        }
+    }
+}
+
+#[test]
 fn cell_7_of_8_is_the_last() -> Result<(), Fail> {
     let mut row = [0, 1, 2, 3, 4, 5, 6, 7];
-    let mut bank = WordBank::over(&mut row)?;
+    let mut bank = WordBank::new(&mut row);
     check_eq(bank.size(), 8)?;
     check_eq(bank.read(7), Ok(7))?;
     check_eq(bank.read(8), Err(Refusal::NoSuchCell))?;
@@ -56,13 +68,13 @@ fn shown<B: Bank + Drop>(bank: B) -> Result<(), Fail> {
 #[test]
 fn a_window_ends_with_the_bank_below() -> Result<(), Fail> {
     let mut row = [0, 1, 2, 3, 4, 5, 6, 7];
-    shown(WordBank::over(&mut row)?)
+    shown(WordBank::new(&mut row))
 }
 
 #[test]
 fn a_ninth_cell_sends_eight_down() -> Result<(), Fail> {
     let mut row = [0; 16];
-    let mut bank = HoldBack::new(HoldBack::new(WordBank::over(&mut row)?));
+    let mut bank = HoldBack::new(HoldBack::new(WordBank::new(&mut row)));
     for cell in 0..8 {
         bank.write(15 - cell, 1)?;
     }
@@ -71,7 +83,7 @@ fn a_ninth_cell_sends_eight_down() -> Result<(), Fail> {
     bank.write(0, 3)?;
     check_eq(bank.held(), &[HeldCell { cell: 0, value: 3 }])?;
     check_eq(bank.read(12), Ok(2))?;
-    bank.settle();
+    settle_upper(&mut bank);
     check_eq(bank.held().len(), 0)?;
     let lower = bank.finish();
     check_eq(lower.held(), &[HeldCell { cell: 0, value: 3 }])

@@ -1,4 +1,4 @@
-ghost use mathlib.Core.Bool.{true, false};
+ghost use mathlib.Core.Bool.{false};
 ghost use mathlib.Core.List.{[], _∷_};
 ghost use mathlib.Core.Path.{_≡_};
 ghost use lib.ListN.{length, set};
@@ -45,12 +45,14 @@ impl<'a> WordBank<'a> {
         WordBank { row }
     }
 
-    // `admits` and `new` in one. The caller learns of the row from the bank alone.
-    pub fn over(row: &'a mut [u16]) -> Result<WordBank<'a>, Refusal>
-        ensures { λ r. ⌜ Cases r (λ b. (now (b .row) ≡ now (row .entry)) × (name (b .row) ≡ name (row .entry)) × Sound-row (now (b .row))) (λ e. (label-of e ≡ labelled 8 []) × (admitted (length (now (row .entry))) ≡ false)) ⌝ }
+    // `admits` and `new` in one. A row that is not admitted is handed back with the refusal.
+    pub fn over(row: &'a mut [u16]) -> Result<WordBank<'a>, (&'a mut [u16], Refusal)>
+        ensures { λ r. ⌜ Cases r (λ b. (now (b .row) ≡ now (row .entry)) × (name (b .row) ≡ name (row .entry)) × Sound-row (now (b .row))) (λ e. (label-of (e .1) ≡ labelled 8 []) × (admitted (length (now (row .entry))) ≡ false) × (now (e .0) ≡ now (row .entry)) × (name (e .0) ≡ name (row .entry))) ⌝ }
     {
-        WordBank::admits(row)?;
-        Ok(WordBank::new(row))
+        match WordBank::admits(row) {
+            Ok(()) => Ok(WordBank::new(row)),
+            Err(refusal) => Err((row, refusal)),
+        }
     }
 
     // Hands the row back.

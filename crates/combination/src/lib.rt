@@ -75,3 +75,36 @@ pub fn press_row(row: &mut [u16], inner: Span, outer: Span, values: &[u16]) -> R
     let (_, reply) = press_and_return(row, inner, outer, values);
     reply
 }
+
+#[cfg(test)]
+mod tests {
+    use super::*;
+    use refusal::RefusalDebug;
+    use refusal::RefusalError;
+    use refusal::RefusalPartialEq;
+    use std::test::*;
+
+    #[test]
+    fn all_values_are_written_or_none() -> Result<(), Fail> {
+        let mut row = [9, 9, 9];
+        let mut bank = WordBank::new(&mut row);
+        check_eq(press(&mut bank, &[1, 2, 3, 4]), Err(Refusal::NoSuchCell))?;
+        check_eq(press(&mut bank, &[1, 2]), Ok(()))?;
+        check_eq(row, [1, 2, 9])
+    }
+
+    #[test]
+    fn a_row_is_pressed_where_the_windows_lie() -> Result<(), Fail> {
+        let inner = Span::new(2, 8)?;
+        let outer = Span::new(1, 4)?;
+        let mut row = [9; 9];
+        let reply = press_row(&mut row, inner, outer, &[1, 2, 3, 4, 5]);
+        check_eq(reply, Err(Refusal::NoSuchCell))?;
+        check_eq(press_row(&mut row, inner, outer, &[1, 2, 3, 4]), Ok(()))?;
+        check_eq(row, [9, 9, 9, 1, 2, 3, 4, 9, 9])?;
+        check_eq(
+            press_row(&mut [], inner, outer, &[]),
+            Err(Refusal::LengthNotAdmitted),
+        )
+    }
+}

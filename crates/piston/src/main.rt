@@ -90,7 +90,8 @@ fn run(rt: &LibcRuntime) -> Result<(), AnyError> {
     let mut row = [1; FIRST + CELLS + 4];
     print_row(rt, &row)?;
     let span = Span::new(FIRST, CELLS)?;
-    play(rt, WordBank::over(&mut row)?, span, &numbered())?;
+    WordBank::admits(&row)?;
+    play(rt, WordBank::new(&mut row), span, &numbered())?;
     print_row(rt, &row)?;
     // The general cancel, and one cell too many.
     let whole = Span::new(0, 4048)?;

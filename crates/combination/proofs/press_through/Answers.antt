@@ -1,9 +1,8 @@
 use mathlib.Core.Path.{_≡_, sym, ap, subst, _∙_}
 use mathlib.Core.List.{[]}
-use Prim.Native.Nat.{_+_}
 use lib.ListN.{length}
 use Rattle.bank.specs.Holding.{held-by, Sound-held}
-use Rattle.combination.specs.Pressing.{enough, overwritten, pressing, seen-through}
+use Rattle.combination.specs.Pressing.{pressing}
 use Rattle.combination.proofs.Through.{low, mid, low-outside, low-fixed, high-is, through, outside-below, fixed-below}
 use Rattle.combination.proofs.press_through.Needs as need
 

@@ -1,6 +1,5 @@
 use mathlib.Core.Path.{refl}
-use Rattle.bank.specs.Cells.{Moved-by}
-use Rattle.bank.specs.Holding.{held-by, held-over, Hold-idles, Hold-takes}
+use Rattle.bank.specs.Holding.{held-by}
 use Rattle.bank.proofs.Order.{lower-holds}
 use Rattle.bank.proofs.hold_back.settle_upper.Needs as need
 
