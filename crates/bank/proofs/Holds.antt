@@ -8,7 +8,7 @@ use lib.Dec.{ltb}
 use lib.ListN.{length, getD, set, take, length-take}
 use lib.Seq.{getD-take, take-set-lt}
 use Rattle.std.proofs.shelf.Tests.{lt-ltb, le-ltb, cond-true, cond-false}
-use Rattle.std.proofs.shelf.Elements.{all-set, all-push}
+use Rattle.std.proofs.shelf.Elements.{all-getD, all-set, all-push}
 use Rattle.std.specs.declared.option.Option.{Option}
 use Rattle.std.specs.declared.option.Option.the-variants.{Some, None}
 use Rattle.refusal.specs.Labels.{granted}
@@ -25,6 +25,11 @@ hold-kept cells {h′ = h′} same fit kept = record { soundness = λ s. (kept .
 
 pub place-below : (slots : List HeldCell) (count cell i : ℕ) → place-of (take (min count 8) slots) cell ≡ Some i → i < 8
 place-below slots count cell i e = omega (arith, place-within (take (min count 8) slots) cell i e, length-take (min count 8) slots)
+
+-- A cell that a sound hold-back holds is one of the bank below.
+pub held-inside : (slots : List HeldCell) (m i n : ℕ) → i < m → i < length slots → Sound-held n (take m slots) → getD slots i blank .cell < n
+held-inside slots m i n below within s =
+    subst (λ h. h .cell < n) (getD-take m slots i blank below) (all-getD (λ h. (h .cell < n) × Fits-word (h .value)) (take m slots) i blank (simp length-take (omega arith)) (s .fit) .0)
 
 pub found-reading : (hs : List HeldCell) (n : ℕ) (cells : List ℕ) (cell i : ℕ) → place-of (take n hs) cell ≡ Some i → cell < length cells → granted (getD hs i blank .value) ≡ reading (replaced (take n hs) cells) cell
 found-reading hs n cells cell i e lt =

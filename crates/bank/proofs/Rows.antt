@@ -6,12 +6,11 @@ use Prim.Native.Nat.{ℕ, _<_, _≤_}
 use native.Mathlib.Omega.{arith}
 use lib.ListN.{length, set, length-set}
 use Rattle.std.proofs.shelf.Elements.{all-set}
-use lib.Dec.{leb}
 use mathlib.Core.Logic.{⊎-elim}
-use Rattle.std.proofs.shelf.Tests.{cond-true, cond-both, and-parts, leb-true, cases-lt}
+use Rattle.std.proofs.shelf.Tests.{cond-true, cond-both, cases-lt}
 use Rattle.std.proofs.shelf.Ways.{tells}
 use Rattle.bank.specs.Cells.{Fits-word}
-use Rattle.bank.specs.Rows.{admitted, row-cells, row-outside, Sound-row}
+use Rattle.bank.specs.Rows.{admitted, admitted-few, row-cells, row-outside, Sound-row}
 
 pub admitted-in : (n : ℕ) → 0 < n → n ≤ 4048 → admitted n ≡ true
 admitted-in n h k = grind (arith, tells)
@@ -26,7 +25,7 @@ outside-in row h k = cond-true (admitted (length row)) [] row (admitted-in (leng
 pub cells-beyond : (row : List ℕ) (i : ℕ) → (i < length row → 4048 < length row) → length (row-cells row) ≤ i
 cells-beyond row i h =
     cond-both (admitted (length row)) row [] (λ cells. length cells ≤ i)
-    (λ e. let few = leb-true (length row) 4048 (and-parts (leb 1 (length row)) (leb (length row) 4048) e .1) in ⊎-elim (λ lt. absurd (omega (arith, h lt))) (λ le. le) (cases-lt i (length row)))
+    (λ e. let few = admitted-few (length row) e in ⊎-elim (λ lt. absurd (omega (arith, h lt))) (λ le. le) (cases-lt i (length row)))
     (λ _. omega arith)
 
 pub sound-set : (row : List ℕ) (i v : ℕ) → Fits-word v → Sound-row row → Sound-row (set row i v)

@@ -101,9 +101,11 @@ pub record Hold-takes {B : Type 0} (cells : B → List ℕ) (idles : B → B →
   pub way : (b : B) × Star idles (h .below) b × Sent moves b (overflow (held-by h) i) (h′ .below)
 
 -- What was held has gone down to the bank b, in the order in which it came, and b has the cells that the hold-back meant.
+-- Of a sound hold-back every write was granted.
 pub record Sent-down {B : Type 0} (cells : B → List ℕ) (idles : B → B → Type 0) (takes : B → ℕ → ℕ → B → Type 0) (h : HoldBack B) (b : B) : Type 0 where
   pub now-below : cells b ≡ held-over cells h
   pub way : Sent (Moved-by cells idles takes) (h .below) (held-by h) b
+  pub all-taken : Sound-held (length (cells (h .below))) (held-by h) → Sent takes (h .below) (held-by h) b
 
 pub length-replaced : (hs : List HeldCell) (cells : List ℕ) → length (replaced hs cells) ≡ length cells
 length-replaced [] cells = refl

@@ -31,8 +31,11 @@ pub record Sound-row (row : List ℕ) : Type 0 where
   pub length-right : admitted (length row) ≡ true
   pub fitting : Fit-words row
 
+pub admitted-few : (n : ℕ) → admitted n ≡ true → n ≤ 4048
+admitted-few n e = leb-true n 4048 (and-parts (leb 1 n) (leb n 4048) e .1)
+
 pub row-few : (row : List ℕ) → length (row-cells row) ≤ 4048
-row-few row = cond-both (admitted (length row)) row [] (λ cells. length cells ≤ 4048) (λ e. leb-true (length row) 4048 (and-parts (leb 1 (length row)) (leb (length row) 4048) e .1)) (λ _. omega arith)
+row-few row = cond-both (admitted (length row)) row [] (λ cells. length cells ≤ 4048) (admitted-few (length row)) (λ _. omega arith)
 
 pub row-words : (row : List ℕ) → Sound-row row → Fit-words (row-cells row)
 row-words row s = rw (s .length-right) (s .fitting)

@@ -43,6 +43,7 @@ impl<B: Bank> HoldBack<B> {
     pub fn new(below: B) -> HoldBack<B>
         ensures below { λ r. ⌜ r .below ≡ below ⌝ }
         ensures held { λ r. ⌜ held-by r ≡ [] ⌝ }
+        ensures sound { λ r. ⌜ (B·Bank .sound below → Hold-sound (B·Bank .sound) (B·Bank .cells) r) ⌝ }
     {
         HoldBack {
             below,
@@ -80,6 +81,7 @@ impl<B: Bank> HoldBack<B> {
         ensures kept { λ _. ⌜ Preserved (B·Bank .sound) (B·Bank .outside) (B·Bank .fixed) (now (self .entry) .below) (now (self .exit) .below) ⌝ }
         ensures held { λ _. ⌜ held-by (now (self .exit)) ≡ [] ⌝ }
         ensures same { λ _. ⌜ held-over (B·Bank .cells) (now (self .exit)) ≡ held-over (B·Bank .cells) (now (self .entry)) ⌝ }
+        ensures sound { λ _. ⌜ (Hold-sound (B·Bank .sound) (B·Bank .cells) (now (self .entry)) → Hold-sound (B·Bank .sound) (B·Bank .cells) (now (self .exit))) ⌝ }
         ensures count { λ _. ⌜ now (self .exit) .count ≡ 0 ⌝ }
     {
         let n = self.count.min(ROOM);

@@ -1,4 +1,4 @@
-ghost use mathlib.Core.Bool.{false};
+ghost use mathlib.Core.Bool.{true, false};
 ghost use mathlib.Core.List.{[], _∷_};
 ghost use mathlib.Core.Path.{_≡_};
 ghost use lib.ListN.{length, set};
@@ -39,7 +39,7 @@ impl<'a> WordBank<'a> {
     pub fn new(row: &'a mut [u16]) -> WordBank<'a>
         ensures row { λ r. ⌜ now (r .row) ≡ now (row .entry) ⌝ }
         ensures place { λ r. ⌜ name (r .row) ≡ name (row .entry) ⌝ }
-        ensures fitting { λ r. ⌜ Fit-words (now (r .row)) ⌝ }
+        ensures sound { λ r. ⌜ (admitted (length (now (row .entry))) ≡ true → Sound-row (now (r .row))) ⌝ }
     {
         let _ = first_word(row);
         WordBank { row }
