@@ -50,5 +50,5 @@ returns-in-None g c =
 pub bounds-self-i : goal.bounds-self-i
 bounds-self-i g c = place_below c.args.self.now.slots c.args.self.now.count c.args.cell c.in-Some.i (ap (λ hs. place_of hs c.args.cell) (sym c.held.ensures) ∙ sym c.newest-place.ensures ∙ c.in-Some.is)
 
-pub offset-bounds-self-i : goal.offset-bounds-self-i
-offset-bounds-self-i g c = let below = place_below c.args.self.now.slots c.args.self.now.count c.args.cell c.in-Some.i (ap (λ hs. place_of hs c.args.cell) (sym c.held.ensures) ∙ sym c.newest-place.ensures ∙ c.in-Some.is) in search rules
+pub offset_bounds-self-i : goal.offset_bounds-self-i
+offset_bounds-self-i g c = let below = place_below c.args.self.now.slots c.args.self.now.count c.args.cell c.in-Some.i (ap (λ hs. place_of hs c.args.cell) (sym c.held.ensures) ∙ sym c.newest-place.ensures ∙ c.in-Some.is) in search rules

@@ -47,7 +47,7 @@ returns-in-None g c =
     let i = c.args.cell in
     let v = c.args.value in
     let e = c.size.ensures in
-    let room = c.make-room.ensures in
+    let room = c.make_room.ensures in
     let moves = MovedBy g.B.Bank.cells g.B.Bank.idles g.B.Bank.takes in
     let last = c.push.new.self in
     let place : place_of (held_by h) i ≡ None = ap (λ hs. place_of hs i) (sym c.held.ensures) ∙ sym c.in-None.ensures in
@@ -61,11 +61,11 @@ returns-in-None g c =
       value = writing_in (replaced (held_by h) cells) i inside;
       after = ap (λ hs. replaced hs (g.B.Bank.cells last.below)) now_held ∙ ap (replaced (stored (held_by h) i v)) now_below ∙ stored_cells (held_by h) cells i v ∙ sym (written_set (replaced (held_by h) cells) i v);
       kept = hold_kept g.B.Bank.cells same_length (λ f. subst (SoundHeld (length cells)) (sym now_held) (stored_sound (length cells) (held_by h) i v (omega arith) (omega arith) f)) (preserved_then e.kept (subst (λ b. Preserved g.B.Bank.sound g.B.Bank.outside g.B.Bank.fixed c.size.new.self b) (sym c.push.ensures.below) room.kept));
-      moved = (λ _. record { now_held = now_held; now_below = now_below; way = (c.size.new.self, more e.idle none, subst (λ b. Sent moves c.size.new.self (overflow (held_by h) i) b) (sym c.push.ensures.below) (subst (λ hs. Sent moves c.size.new.self hs c.make-room.new.self.below) sent room.way)) }, λ le. absurd (omega arith));
+      moved = (λ _. record { now_held = now_held; now_below = now_below; way = (c.size.new.self, more e.idle none, subst (λ b. Sent moves c.size.new.self (overflow (held_by h) i) b) (sym c.push.ensures.below) (subst (λ hs. Sent moves c.size.new.self hs c.make_room.new.self.below) sent room.way)) }, λ le. absurd (omega arith));
     }
 
 pub bounds-self-i : goal.bounds-self-i
 bounds-self-i g c = place_below c.args.self.now.slots c.args.self.now.count c.args.cell c.in-Some.i (ap (λ hs. place_of hs c.args.cell) (sym c.held.ensures) ∙ sym c.in-Some.ensures)
 
-pub offset-bounds-self-i : goal.offset-bounds-self-i
-offset-bounds-self-i g c = let below = place_below c.args.self.now.slots c.args.self.now.count c.args.cell c.in-Some.i (ap (λ hs. place_of hs c.args.cell) (sym c.held.ensures) ∙ sym c.in-Some.ensures) in search rules
+pub offset_bounds-self-i : goal.offset_bounds-self-i
+offset_bounds-self-i g c = let below = place_below c.args.self.now.slots c.args.self.now.count c.args.cell c.in-Some.i (ap (λ hs. place_of hs c.args.cell) (sym c.held.ensures) ∙ sym c.in-Some.ensures) in search rules
