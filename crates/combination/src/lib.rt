@@ -10,10 +10,10 @@ use refusal::Refusal;
 
 // Writes the values to the first cells in order or, where there are too few cells, writes none.
 pub fn press<B: Bank>(bank: &mut B, values: &[u16]) -> Result<(), Refusal>
-    ensures value { reply_of result ≡ pressing values.now (cells bank.old) }
-    ensures after { cells bank.new ≡ pressed values.now (cells bank.old) }
-    ensures kept { Preserved sound outside fixed bank.old bank.new }
-    ensures way { PressWay idles (MovedBy cells idles takes) (enough values.now (cells bank.old)) values.now bank.old bank.new }
+    ensures value { reply_of result ≡ pressing values.now (B.cells bank.old) }
+    ensures after { B.cells bank.new ≡ pressed values.now (B.cells bank.old) }
+    ensures kept { Preserved B.sound B.outside B.fixed bank.old bank.new }
+    ensures way { PressWay B.idles (MovedBy B.cells B.idles B.takes) (enough values.now (B.cells bank.old)) values.now bank.old bank.new }
 {
     if values.len() > bank.size() {
         return Err(Refusal::NoSuchCell);
@@ -31,9 +31,9 @@ fn press_through<B: Bank>(
     outer: Span,
     values: &[u16],
 ) -> (B, Result<(), Refusal>)
-    ensures value { reply_of result.1 ≡ pressing values.now (seen_through inner outer (cells bank)) }
-    ensures after { cells result.0 ≡ (if enough values.now (seen_through inner outer (cells bank)) then overwritten (inner.first + outer.first) values.now (cells bank) else cells bank) }
-    ensures kept { Preserved sound outside fixed bank result.0 }
+    ensures value { reply_of result.1 ≡ pressing values.now (seen_through inner outer (B.cells bank)) }
+    ensures after { B.cells result.0 ≡ (if enough values.now (seen_through inner outer (B.cells bank)) then overwritten (inner.first + outer.first) values.now (B.cells bank) else B.cells bank) }
+    ensures kept { Preserved B.sound B.outside B.fixed bank result.0 }
 {
     let mut top = Window::new(HoldBack::new(Window::new(bank, inner)), outer);
     let reply = press(&mut top, values);

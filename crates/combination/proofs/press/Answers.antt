@@ -44,12 +44,12 @@ loop-i-preserved g c =
     )
 
 -- A cell below the size is never refused.
-pub returns-in-err-write : goal.returns-in-err-write
-returns-in-err-write g c =
+pub returns-in_err-write : goal.returns-in_err-write
+returns-in_err-write g c =
     let now = g.B.Bank.cells c.loop-i.bank in
     let inside : c.loop-i.i < length now = omega (arith, c.loop-i.invariant.0.same_length) in
     let granted_it = c.write.ensures.value ∙ sym (writing_in now c.loop-i.i inside) in
-    let refused = ap reply_of c.in-err-write.was in
+    let refused = ap reply_of c.in_err-write.was in
     absurd (let z : ◌≡◌ {A = ℕ} 0 1 = cc in omega arith)
 
 pub returns : goal.returns
