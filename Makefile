@@ -2,11 +2,10 @@
 .PHONY: run test
 
 run:
-	rt check piston
-	./target/bin/piston
+	@cd crates/piston && rt run
 
 # The last line is that of rt ci.
 test:
 	@tools/listed
 	@compare/run
-	@rt ci
+	@tools/proved
