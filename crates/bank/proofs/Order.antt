@@ -1,6 +1,6 @@
 -- Writes that reach a hold-back one after another. Assumes nothing.
 use Rattle.std.proofs.Common.{◌≡◌, ℕ, ◌<◌, List, [], ◌∷◌, length, sym, ap, ◌∙◌, subst}
-use Rattle.std.specs.List.{AllByRecursion as All}
+use Rattle.std.specs.List.{AllByRecursion}
 use Rattle.bank.specs.declared.hold_back.HeldCell.{HeldCell}
 use Rattle.bank.specs.declared.hold_back.HoldBack.{HoldBack}
 use Rattle.bank.specs.Cells.{FitsWord, MovedBy}
@@ -15,7 +15,7 @@ module _ {B : Type 0} (cells : B → List ℕ) (idles : B → B → Type 0) (tak
       length-replaced (held_by l') (cells l'.below) ∙ ap length t.now_below ∙ length-replaced (overflow (held_by l) i) (cells l.below) ∙ sym (length-replaced (held_by l) (cells l.below))
 
   -- It then holds what the writes leave held, in their order.
-  pub lower_holds : (ws : List HeldCell) (l l' : HoldBack B) (n : ℕ) → All (λ w. (w.cell < n) × FitsWord w.value) ws → length (held_over cells l) ≡ n → Sent Step l ws l' → held_by l' ≡ taken_in (held_by l) ws
+  pub lower_holds : (ws : List HeldCell) (l l' : HoldBack B) (n : ℕ) → AllByRecursion (λ w. (w.cell < n) × FitsWord w.value) ws → length (held_over cells l) ≡ n → Sent Step l ws l' → held_by l' ≡ taken_in (held_by l) ws
   lower_holds [] l l' n fit size same = ap held_by (sym same)
   lower_holds (w ∷ ws) l l' n fit size sent =
       let t = sent.1.0 (subst (λ m. w.cell < m) (sym size) fit.0.0) in

@@ -1,7 +1,7 @@
 -- Cells held back over a bank below. Assumes nothing.
 use Rattle.std.specs.Prelude.{◌≡◌, ℕ, suc, ◌<◌, ◌≤◌, min, Bool, cond, List, [], ◌∷◌, ◌++◌, length, take, Some, None, Option, ◌==◌, nat_lt, slice_set, refl}
 use Rattle.std.proofs.Common.{◌∙◌, length-set}
-use Rattle.std.specs.List.{FoldsTo, AllByRecursion as All}
+use Rattle.std.specs.List.{FoldsTo, AllByRecursion}
 use Rattle.std.proofs.ByRecursion.{All-set}
 use Rattle.bank.specs.declared.hold_back.HeldCell.{HeldCell}
 use Rattle.bank.specs.declared.hold_back.HoldBack.{HoldBack}
@@ -70,7 +70,7 @@ Apart (h ∷ hs) = (place_of hs h.cell ≡ None) × Apart hs
 
 -- What a sound hold-back holds over a bank of n cells: words for cells that are there, each of them once.
 pub record SoundHeld (n : ℕ) (hs : List HeldCell) : Type 0 where
-  pub fit : All (λ h. (h.cell < n) × FitsWord h.value) hs
+  pub fit : AllByRecursion (λ h. (h.cell < n) × FitsWord h.value) hs
   pub apart : Apart hs
 
 -- A hold-back is sound where the bank below is, and what it holds.
@@ -107,6 +107,6 @@ length-replaced (h ∷ hs) cells = length-replaced hs (slice_set cells h.cell h.
 pub replaced_few : (hs : List HeldCell) (cells : List ℕ) → length cells ≤ 4048 → length (replaced hs cells) ≤ 4048
 replaced_few hs cells few = rw (length-replaced hs cells) few
 
-pub replaced_words : (hs : List HeldCell) (cells : List ℕ) (n : ℕ) → FitWords cells → All (λ h. (h.cell < n) × FitsWord h.value) hs → FitWords (replaced hs cells)
+pub replaced_words : (hs : List HeldCell) (cells : List ℕ) (n : ℕ) → FitWords cells → AllByRecursion (λ h. (h.cell < n) × FitsWord h.value) hs → FitWords (replaced hs cells)
 replaced_words [] cells n w f = w
 replaced_words (h ∷ hs) cells n w f = replaced_words hs (slice_set cells h.cell h.value) n (All-set FitsWord cells h.cell h.value f.0.1 w) f.1

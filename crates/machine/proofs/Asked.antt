@@ -1,6 +1,6 @@
 -- Rules that agree on proper contacts make the same step. Assumes nothing.
 use Rattle.std.proofs.Common.{◌≡◌, ℕ, suc, ◌+◌, ◌<◌, ◌≤◌, Bool, false, cond, ltb, List, [], ◌∷◌, length, get_or, is_some, Some, None, Option, sym, refl, ap, ◌∙◌, subst, inl, inr, arith}
-use Rattle.std.specs.List.{AllByRecursion as All}
+use Rattle.std.specs.List.{AllByRecursion}
 use Rattle.std.proofs.ByRecursion.{All-weaker}
 use Rattle.std.proofs.lemmas.Bool.{cases_Bool, cond-false, ltb-true}
 use Rattle.rule.specs.Verdicts.{Proper}
@@ -13,7 +13,7 @@ use Rattle.machine.proofs.Places.{all_places}
 use Rattle.machine.proofs.Sound.{sound}
 use Rattle.machine.proofs.Proper.{Asks, table_asks, proper_with, proper_from}
 
-first_same : (f g : Contact → Bool) (ks : List Contact) → All (λ (k : Contact). f k ≡ g k) ks → first_that f ks ≡ first_that g ks
+first_same : (f g : Contact → Bool) (ks : List Contact) → AllByRecursion (λ (k : Contact). f k ≡ g k) ks → first_that f ks ≡ first_that g ks
 first_same f g [] h = refl
 first_same f g (k ∷ ks) h = ap (λ (b : Bool). cond b (Some k) (first_that f ks)) h.0 ∙ ap (λ (z : Option Contact). cond (g k) (Some k) z) (first_same f g ks h.1)
 
@@ -29,10 +29,10 @@ held_same s c f g h = elim (cases_Bool (ltb c 8)) [
 ]
 
 module _ (v v' : Contact → Verdict) (agree : (k : Contact) → Proper k → v k ≡ v' k) where
-  same_first : (f : Verdict → Bool) (ks : List Contact) → All Proper ks → first_that (λ k. f (v k)) ks ≡ first_that (λ k. f (v' k)) ks
+  same_first : (f : Verdict → Bool) (ks : List Contact) → AllByRecursion Proper ks → first_that (λ k. f (v k)) ks ≡ first_that (λ k. f (v' k)) ks
   same_first f ks h = first_same (λ k. f (v k)) (λ k. f (v' k)) ks (All-weaker Proper (λ (k : Contact). f (v k) ≡ f (v' k)) (λ k p. ap f (agree k p)) ks h)
 
-  module _ (q : Request) (l : q.caller < 8) (h : All (Asks q) q.points) where
+  module _ (q : Request) (l : q.caller < 8) (h : AllByRecursion (Asks q) q.points) where
     marks_same : (i : ℕ) (ss : List Standing) → i + length ss ≤ 8 → mark_from v q i ss ≡ mark_from v' q i ss
     marks_same i [] m = refl
     marks_same i (s ∷ ss) m =

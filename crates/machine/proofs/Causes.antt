@@ -1,6 +1,6 @@
 -- How each client stands after a call, and the causes. Assumes nothing.
 use Rattle.std.proofs.Common.{◌≡◌, ℕ, zero, suc, ◌+◌, ◌<◌, Bool, true, false, ◌||◌, eqb, ltb, List, [], ◌∷◌, map, length, get_or, set, is_some, Some, None, Option, sym, refl, ap, ◌∙◌, subst, inl, inr, add-zero, zero-add, arith, get_or-set_other, get_or-set_same}
-use Rattle.std.specs.List.{AllByRecursion as All}
+use Rattle.std.specs.List.{AllByRecursion}
 use Rattle.std.proofs.ByRecursion.{All-weaker, All-map, All-append}
 use Rattle.std.proofs.lemmas.Bool.{cond_both, cases_eq, cases_Bool, cond-true, cond-false, eqb-false, ltb-true, ltb-false, or_cases, true≢false, false≢true}
 use Rattle.rule.specs.Verdicts.{Lawful, Proper, touched}
@@ -50,7 +50,7 @@ request_caller (of_write f z) = refl
 request_caller of_close = refl
 
 -- the first that passes a test passes it, and is as all are
-first_is : (P : Contact → Type 0) (f : Contact → Bool) (ks : List Contact) (m : Contact) → All P ks → first_that f ks ≡ Some m → (f m ≡ true) × P m
+first_is : (P : Contact → Type 0) (f : Contact → Bool) (ks : List Contact) (m : Contact) → AllByRecursion P ks → first_that f ks ≡ Some m → (f m ≡ true) × P m
 first_is P f [] m h p = absurd (some≢none m None p refl)
 first_is P f (k ∷ ks) m h p = elim (cases_Bool (f k)) [
   | inl t ↦ let e = some_same k m (sym (cond-true (f k) (Some k) (first_that f ks) t) ∙ p) in (subst (λ (z : Contact). f z ≡ true) e t, subst P e h.0)
@@ -98,7 +98,7 @@ module _ (start : List ℕ) (s : State) (a : Account) (i : Tied start s a) where
     writes : p.written ≡ true → WrittenBy a k (caller_of k) p.cell
 
   -- each entry of a table is the one of its cell
-  own_entries : (es : List Entry) → SoundTable es → All (λ (e : Entry). (entry_of e.cell es ≡ Some e) × ((is_some e.read || is_some e.written) ≡ true)) es
+  own_entries : (es : List Entry) → SoundTable es → AllByRecursion (λ (e : Entry). (entry_of e.cell es ≡ Some e) × ((is_some e.read || is_some e.written) ≡ true)) es
   own_entries [] h = tt
   own_entries (e ∷ es) h = (
     (entry_here e es e.cell refl, h.1),
@@ -106,7 +106,7 @@ module _ (start : List ℕ) (s : State) (a : Account) (i : Tied start s a) where
         (λ d p. (entry_there e es d.cell (λ q. some≢none d _ (ap (λ (z : ℕ). entry_of z es) q ∙ p.0) h.0) ∙ p.0, p.1)) es (own_entries es h.2),
   )
 
-  asked_of : {k : Call} {q : Request} (c n : ℕ) (es : List Entry) → get_or s.clients c idle ≡ open_with n es → RequestOf c n es k q → All (Asked k q) q.points
+  asked_of : {k : Call} {q : Request} (c n : ℕ) (es : List Entry) → get_or s.clients c idle ≡ open_with n es → RequestOf c n es k q → AllByRecursion (Asked k q) q.points
   asked_of c n es p (of_read {x = x} z) = let h = table_tells c n es p in (
     record {
       requested = refl;
@@ -152,11 +152,11 @@ module _ (start : List ℕ) (s : State) (a : Account) (i : Tied start s a) where
     other_touches : touched m.other ≡ true → HasTouched m.cell (operations_of a m.other.client)
     other_writes : m.other.written ≡ true → HasWritten m.cell (operations_of a m.other.client)
 
-  module _ (k : Call) (q : Request) (c : q.caller ≡ caller_of k) (l : caller_of k < 8) (asked : All (Asked k q) q.points) where
-    met_with : (d : ℕ) (st : Standing) → get_or s.clients d idle ≡ st → All (λ (m : Contact). Met k m × (m.other.client ≡ d)) (contacts_with q d st)
+  module _ (k : Call) (q : Request) (c : q.caller ≡ caller_of k) (l : caller_of k < 8) (asked : AllByRecursion (Asked k q) q.points) where
+    met_with : (d : ℕ) (st : Standing) → get_or s.clients d idle ≡ st → AllByRecursion (λ (m : Contact). Met k m × (m.other.client ≡ d)) (contacts_with q d st)
     met_with d idle p = tt
     met_with d (marked w x) p = tt
-    met_with d (open_with n es) p = cond_both (eqb d q.caller) [] (map (contact_at q d n es) q.points) (All (λ (m : Contact). Met k m × (m.other.client ≡ d)))
+    met_with d (open_with n es) p = cond_both (eqb d q.caller) [] (map (contact_at q d n es) q.points) (AllByRecursion (λ (m : Contact). Met k m × (m.other.client ≡ d)))
         (λ e. tt)
         (λ e. let t = table_tells d n es p in All-map (λ (m : Contact). Met k m × (m.other.client ≡ d)) (contact_at q d n es) q.points (All-weaker (Asked k q) _ (λ r h. (
           record {
@@ -175,11 +175,11 @@ module _ (start : List ℕ) (s : State) (a : Account) (i : Tied start s a) where
           refl,
         )) q.points asked))
 
-    met_from : (j : ℕ) (ss : List Standing) → ((d e : ℕ) → j + d ≡ e → All (Met k) (contacts_with q e (get_or ss d idle))) → All (Met k) (contacts_from q j ss)
+    met_from : (j : ℕ) (ss : List Standing) → ((d e : ℕ) → j + d ≡ e → AllByRecursion (Met k) (contacts_with q e (get_or ss d idle))) → AllByRecursion (Met k) (contacts_from q j ss)
     met_from j [] f = tt
     met_from j (u ∷ ss) f = All-append (Met k) (contacts_with q j u) (contacts_from q (suc j) ss) (f zero j (add-zero j)) (met_from (suc j) ss (λ d e p. f (suc d) e (omega arith)))
 
-    met : All (Met k) (contacts_from q 0 s.clients)
+    met : AllByRecursion (Met k) (contacts_from q 0 s.clients)
     met = met_from 0 s.clients (λ d e z. All-weaker (λ (m : Contact). Met k m × (m.other.client ≡ e)) (Met k) (λ m h. h.0) _
         (met_with e (get_or s.clients d idle) (ap (λ (n : ℕ). get_or s.clients n idle) (sym z ∙ zero-add d))))
 

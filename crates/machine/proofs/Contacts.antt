@@ -1,6 +1,6 @@
 -- Which contacts a request has, whom it marks, and what that leaves to a close. Assumes nothing.
 use Rattle.std.proofs.Common.{◌≡◌, ℕ, zero, suc, ◌+◌, Bool, true, false, eqb, List, [], ◌∷◌, ◌++◌, map, length, get_or, is_some, Some, None, Option, sym, refl, ap, ◌∙◌, subst, inl, inr, add-zero, arith}
-use Rattle.std.specs.List.{AllByRecursion as All}
+use Rattle.std.specs.List.{AllByRecursion}
 use Rattle.std.proofs.lemmas.Bool.{cases_eq, cases_Bool, true≢false, cond-true, cond-false, ne_eqb}
 use Rattle.rule.specs.Verdicts.{Lawful, Proper}
 use Rattle.rule.specs.declared.Contact.{Contact}
@@ -65,12 +65,12 @@ both_stand OtherYields p q = absurd (true≢false q)
 
 -- the closer of es wrote no cell that es' read
 abbrev Clear : List Entry → List Entry → Type 0
-Clear es es' = All (λ (e : Entry). is_some e.written ≡ true → was_read (entry_of e.cell es') ≡ true → ⊥) es
+Clear es es' = AllByRecursion (λ (e : Entry). is_some e.written ≡ true → was_read (entry_of e.cell es') ≡ true → ⊥) es
 
 clear_points : (v : Contact → Verdict) → Lawful v → (q : Request) → q.event ≡ Close → (d m : ℕ) (es' es : List Entry)
     → first_that (λ k. is_caller_yields (v k)) (map (contact_at q d m es') (map point_of es)) ≡ None
     → first_that (λ k. is_other_yields (v k)) (map (contact_at q d m es') (map point_of es)) ≡ None
-    → All Proper (map (contact_at q d m es') (map point_of es)) → Clear es es'
+    → AllByRecursion Proper (map (contact_at q d m es') (map point_of es)) → Clear es es'
 clear_points v law q close d m es' [] h g proper = tt
 clear_points v law q close d m es' (e ∷ es) h g proper = (
   λ w r. law.enough k proper.0 close w r (both_stand (v k) (none_here (λ k. is_caller_yields (v k)) k ks h) (none_here (λ k. is_other_yields (v k)) k ks g)),
@@ -86,7 +86,7 @@ clear_points v law q close d m es' (e ∷ es) h g proper = (
 pub clear : (v : Contact → Verdict) → Lawful v → (c n d m : ℕ) (es es' : List Entry) → (d ≡ c → ⊥)
     → first_that (λ k. is_caller_yields (v k)) (contacts_with (close_request c n es) d (open_with m es')) ≡ None
     → first_that (λ k. is_other_yields (v k)) (contacts_with (close_request c n es) d (open_with m es')) ≡ None
-    → All Proper (contacts_with (close_request c n es) d (open_with m es')) → Clear es es'
+    → AllByRecursion Proper (contacts_with (close_request c n es) d (open_with m es')) → Clear es es'
 clear v law c n d m es es' ne h g proper =
     let e = cond-false (eqb d c) [] (map (contact_at (close_request c n es) d m es') (map point_of es)) (ne_eqb d c ne) in
     clear_points v law (close_request c n es) refl d m es' es (rw e at h) (rw e at g) (rw e at proper)

@@ -1,6 +1,6 @@
 -- Where the log has the last granted read of each transaction, and that its reads are those of the cells then. Assumes nothing.
 use Rattle.std.proofs.Common.{◌≡◌, ℕ, zero, suc, ◌⊎◌, List, [], ◌∷◌, ◌++◌, length, get_or, set, Some, None, Option, sym, refl, ap, ◌∙◌, subst, inl, inr, append_assoc, append-nil}
-use Rattle.std.specs.List.{AllByRecursion as All}
+use Rattle.std.specs.List.{AllByRecursion}
 use Rattle.std.proofs.ByRecursion.{All-weaker, All-push}
 use Rattle.rule.specs.Verdicts.{Lawful}
 use Rattle.rule.specs.declared.Contact.{Contact}
@@ -102,7 +102,7 @@ abbrev SeenHeld : List ℕ → List Exchange → Account → Type 0
 SeenHeld start log a = (c : ℕ) (t : Transaction) → transaction_of a c ≡ Some t → Seen start log c t
 
 abbrev SeenEnded : List ℕ → List Exchange → List EndedTransaction → Type 0
-SeenEnded start log es = All (λ (e : EndedTransaction). Seen start log e.client e.transaction) es
+SeenEnded start log es = AllByRecursion (λ (e : EndedTransaction). Seen start log e.client e.transaction) es
 
 module _ (start : List ℕ) (log : List Exchange) (held : SeenHeld start log (account_of log)) where
   held_turn : (s u : State) (n : ℕ) {k : Call} {r : Answer} {b : Account} → Turn (account_of log) k r b → account_of (and_then log k r) ≡ b → Grants n s k r u → Tied start u b → SeenHeld start (and_then log k r) b
@@ -156,8 +156,8 @@ seen_consistent start log c t w h = record {
   reads_alone = reads_alone t.operations _ (subst (λ (n : ℕ). Within n t.operations) (sym (left_all_long (committed_in h.last_read.before) start)) w) h.alone;
 }
 
-all_by : (start : List ℕ) (log : List Exchange) (es : List EndedTransaction) → All (λ (e : EndedTransaction). Within (length start) e.transaction.operations) es → SeenEnded start log es
-    → All (λ (e : EndedTransaction). NotCommitted e.how → Consistent start log e.client e.transaction) es
+all_by : (start : List ℕ) (log : List Exchange) (es : List EndedTransaction) → AllByRecursion (λ (e : EndedTransaction). Within (length start) e.transaction.operations) es → SeenEnded start log es
+    → AllByRecursion (λ (e : EndedTransaction). NotCommitted e.how → Consistent start log e.client e.transaction) es
 all_by start log [] w h = tt
 all_by start log (e ∷ es) w h = (λ _. seen_consistent start log e.client e.transaction w.0 h.0, all_by start log es w.1 h.1)
 

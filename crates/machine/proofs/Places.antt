@@ -1,8 +1,8 @@
 -- A place of a list, by a number that may lie past its end. Assumes nothing.
 use Rattle.std.proofs.Common.{◌≡◌, ℕ, zero, suc, List, [], ◌∷◌, get_or, replicate, refl}
-use Rattle.std.specs.List.{AllByRecursion as All}
+use Rattle.std.specs.List.{AllByRecursion}
 
-pub all_places : {X : Type 0} (P : X → Type 0) (xs : List X) (i : ℕ) (d : X) → P d → All P xs → P (get_or xs i d)
+pub all_places : {X : Type 0} (P : X → Type 0) (xs : List X) (i : ℕ) (d : X) → P d → AllByRecursion P xs → P (get_or xs i d)
 all_places P [] i d p h = p
 all_places P (x ∷ xs) zero d p h = h.0
 all_places P (x ∷ xs) (suc i) d p h = all_places P xs i d p h.1

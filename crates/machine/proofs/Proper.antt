@@ -1,6 +1,6 @@
 -- Every contact that a request makes is proper. Assumes nothing.
 use Rattle.std.proofs.Common.{◌≡◌, ℕ, suc, ◌+◌, ◌<◌, ◌≤◌, true, eqb, ltb, List, [], ◌∷◌, map, length, get_or, sym, refl, ◌∙◌, subst, inl, inr, arith}
-use Rattle.std.specs.List.{AllByRecursion as All}
+use Rattle.std.specs.List.{AllByRecursion}
 use Rattle.std.proofs.lemmas.List.{get_or_past}
 use Rattle.std.proofs.ByRecursion.{All-weaker, All-map, All-append}
 use Rattle.std.proofs.lemmas.Bool.{cond_both, cases_Bool, ltb-true, ltb-false, eqb-false}
@@ -20,14 +20,14 @@ own_side q p = record { client = q.caller; number = q.number; read = p.read; wri
 abbrev pub Asks : Request → Point → Type 0
 Asks q p = includes q.event (own_side q p) ≡ true
 
-pub table_asks : (c n : ℕ) (all es : List Entry) → SoundTable es → All (Asks (close_request c n all)) (map point_of es)
+pub table_asks : (c n : ℕ) (all es : List Entry) → SoundTable es → AllByRecursion (Asks (close_request c n all)) (map point_of es)
 table_asks c n all [] h = tt
 table_asks c n all (e ∷ es) h = (h.1, table_asks c n all es h.2)
 
-pub proper_with : (q : Request) (d : ℕ) (st : Standing) → q.caller < 8 → d < 8 → All (Asks q) q.points → All Proper (contacts_with q d st)
+pub proper_with : (q : Request) (d : ℕ) (st : Standing) → q.caller < 8 → d < 8 → AllByRecursion (Asks q) q.points → AllByRecursion Proper (contacts_with q d st)
 proper_with q d idle l m h = tt
 proper_with q d (marked w x) l m h = tt
-proper_with q d (open_with n es) l m h = cond_both (eqb d q.caller) [] (map (contact_at q d n es) q.points) (All Proper) (λ e. tt)
+proper_with q d (open_with n es) l m h = cond_both (eqb d q.caller) [] (map (contact_at q d n es) q.points) (AllByRecursion Proper) (λ e. tt)
     (λ e. All-map Proper (contact_at q d n es) q.points (All-weaker (Asks q) (λ (p : Point). Proper (contact_at q d n es p)) (λ p a. record {
       requested = a;
       apart = λ z. eqb-false d q.caller e (sym z);
@@ -39,13 +39,13 @@ proper_with q d (open_with n es) l m h = cond_both (eqb d q.caller) [] (map (con
 pub past_idle : (ss : List Standing) (d : ℕ) → length ss ≡ 8 → 8 ≤ d → get_or ss d idle ≡ idle
 past_idle ss d e l = get_or_past ss d idle (subst (λ (z : ℕ). z ≤ d) (sym e) l)
 
-pub proper_at : (q : Request) (ss : List Standing) (d : ℕ) → length ss ≡ 8 → q.caller < 8 → All (Asks q) q.points → All Proper (contacts_with q d (get_or ss d idle))
+pub proper_at : (q : Request) (ss : List Standing) (d : ℕ) → length ss ≡ 8 → q.caller < 8 → AllByRecursion (Asks q) q.points → AllByRecursion Proper (contacts_with q d (get_or ss d idle))
 proper_at q ss d e l h = elim (cases_Bool (ltb d 8)) [
   | inl m ↦ proper_with q d (get_or ss d idle) l (ltb-true _ _ m) h
-  | inr m ↦ subst (λ (st : Standing). All Proper (contacts_with q d st)) (sym (past_idle ss d e (ltb-false _ _ m))) tt
+  | inr m ↦ subst (λ (st : Standing). AllByRecursion Proper (contacts_with q d st)) (sym (past_idle ss d e (ltb-false _ _ m))) tt
 ]
 
-pub proper_from : (q : Request) (i : ℕ) (ss : List Standing) → i + length ss ≤ 8 → q.caller < 8 → All (Asks q) q.points → All Proper (contacts_from q i ss)
+pub proper_from : (q : Request) (i : ℕ) (ss : List Standing) → i + length ss ≤ 8 → q.caller < 8 → AllByRecursion (Asks q) q.points → AllByRecursion Proper (contacts_from q i ss)
 proper_from q i [] m l h = tt
 proper_from q i (s ∷ ss) m l h = All-append Proper (contacts_with q i s) (contacts_from q (suc i) ss) (proper_with q i s l (omega arith) h) (proper_from q (suc i) ss (omega arith) l h)
 

@@ -1,6 +1,6 @@
 -- What holds of every state that a log leads to. Assumes nothing.
 use Rattle.std.proofs.Common.{◌≡◌, ℕ, zero, suc, ◌+◌, ◌<◌, ◌≤◌, List, [], ◌∷◌, length, get_or, set, Some, None, sym, refl, ap, ◌∙◌, subst, inl, inr, zero-add, arith, length-append, length-set}
-use Rattle.std.specs.List.{AllByRecursion as All}
+use Rattle.std.specs.List.{AllByRecursion}
 use Rattle.std.proofs.ByRecursion.{All-set}
 use Rattle.rule.specs.declared.Contact.{Contact}
 use Rattle.rule.specs.declared.Verdict.{Verdict}
@@ -39,7 +39,7 @@ count_mark : (v : Contact → Verdict) (q : Request) (i : ℕ) (ss : List Standi
 count_mark v q i [] = refl
 count_mark v q i (s ∷ ss) = let h = holding_mark v q i s in let r = count_mark v q (suc i) ss in cc
 
-bounded_mark : (v : Contact → Verdict) (q : Request) (i : ℕ) (ss : List Standing) → All SoundStanding ss → All SoundStanding (mark_from v q i ss)
+bounded_mark : (v : Contact → Verdict) (q : Request) (i : ℕ) (ss : List Standing) → AllByRecursion SoundStanding ss → AllByRecursion SoundStanding (mark_from v q i ss)
 bounded_mark v q i [] h = tt
 bounded_mark v q i (s ∷ ss) h = (maybe_both SoundStanding (first_that (λ k. is_other_yields (v k)) (contacts_with q i s)) s (λ k. marked q.caller k.cell) (λ e. h.0) (λ k e. tt), bounded_mark v q (suc i) ss h.1)
 
@@ -76,7 +76,7 @@ module _ (start : List ℕ) where
     at_most_eight = count_eight u.clients (ap length p ∙ length-set s.clients c st ∙ i.eight);
     limit = top;
     eight = ap length p ∙ length-set s.clients c st ∙ i.eight;
-    tables = subst (All SoundStanding) (sym p) (All-set SoundStanding s.clients c st b i.tables);
+    tables = subst (AllByRecursion SoundStanding) (sym p) (All-set SoundStanding s.clients c st b i.tables);
     as_many_cells = m ∙ i.as_many_cells;
   }
 

@@ -2,7 +2,7 @@
 use Rattle.std.proofs.Common.{◌≡◌, ℕ, zero, suc, ◌+◌, List, [], ◌∷◌, ◌++◌, length, get_or, set, replicate, Some, None, Option, sym, refl, ap, ◌∙◌, subst, zero-add, suc-ne-zero, length-set}
 use native.Mathlib.Nat.{suc_inj}
 use lib.Seq.{set-get_or}
-use Rattle.std.specs.List.{AllByRecursion as All}
+use Rattle.std.specs.List.{AllByRecursion}
 use Rattle.rule.specs.Verdicts.{Lawful, Proper}
 use Rattle.rule.specs.declared.Contact.{Contact}
 use Rattle.rule.specs.declared.Verdict.{Verdict}
@@ -130,7 +130,7 @@ module _ (start : List ℕ) where
 
   -- who is not the closer, and stays open, read nothing that the closer wrote
   fits_close : (v : Contact → Verdict) → Lawful v → (cells : List ℕ) (c n d : ℕ) (es : List Entry) (s : Standing) (t : Option Transaction) → (d ≡ c → ⊥) → Fits cells s t
-      → first_that (λ k. is_caller_yields (v k)) (contacts_with (close_request c n es) d s) ≡ None → All Proper (contacts_with (close_request c n es) d s) → Fits (store es cells) (mark_one v (close_request c n es) d s) t
+      → first_that (λ k. is_caller_yields (v k)) (contacts_with (close_request c n es) d s) ≡ None → AllByRecursion Proper (contacts_with (close_request c n es) d s) → Fits (store es cells) (mark_one v (close_request c n es) d s) t
   fits_close v law cells c n d es idle None ne h e proper = tt
   fits_close v law cells c n d es idle (Some t) ne h e proper = h
   fits_close v law cells c n d es (marked w x) None ne h e proper = h

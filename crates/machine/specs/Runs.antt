@@ -1,6 +1,6 @@
 -- What a run keeps, told of its log: serial commits, consistent reads, caused yields. Assumes nothing.
 use Rattle.std.specs.Prelude.{◌≡◌, ℕ, Bool, true, false, ◌||◌, ◌⊎◌, List, [], ◌∷◌, ◌++◌, length, Some, None, Option, ◌≢◌, slice_index, slice_index_or}
-use Rattle.std.specs.List.{AllByRecursion as All}
+use Rattle.std.specs.List.{AllByRecursion}
 use Rattle.rule.specs.declared.Contact.{Contact}
 use Rattle.rule.specs.declared.Event.{Event}
 use Rattle.rule.specs.declared.Event.TheVariants as event
@@ -102,7 +102,7 @@ NotCommitted (by_yield w x) = Unit {0}
 -- Every transaction that is still held, or ended by a cancel or a yield, is consistent.
 pub record ConsistentReads (start : List ℕ) (log : List Exchange) : Type 0 where
   pub of_held : (c : ℕ) (t : Transaction) → transaction_of (account_of log) c ≡ Some t → Consistent start log c t
-  pub of_ended : All (λ (e : EndedTransaction). NotCommitted e.how → Consistent start log e.client e.transaction) (account_of log).ended
+  pub of_ended : AllByRecursion (λ (e : EndedTransaction). NotCommitted e.how → Consistent start log e.client e.transaction) (account_of log).ended
 
 -- ---- caused yields
 

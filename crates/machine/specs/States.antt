@@ -1,6 +1,6 @@
 -- What holds of every state that a log leads to, of its contacts, and of declined calls. Assumes nothing.
 use Rattle.std.specs.Prelude.{◌≡◌, ℕ, zero, suc, ◌+◌, ◌<◌, ◌≤◌, Bool, true, ◌||◌, List, [], ◌∷◌, ◌++◌, length, is_some, Some, None, Option, ◌≢◌, slice_index_or, slice_set}
-use Rattle.std.specs.List.{AllByRecursion as All}
+use Rattle.std.specs.List.{AllByRecursion}
 use Rattle.rule.specs.Verdicts.{Proper}
 use Rattle.rule.specs.declared.Contact.{Contact}
 use Rattle.rule.specs.declared.Verdict.{Verdict}
@@ -36,7 +36,7 @@ pub record Sound (start : List ℕ) (s : State) : Type 0 where
   pub at_most_eight : held_count s.clients ≤ 8
   pub limit : s.opened ≤ 4000000000
   pub eight : length s.clients ≡ 8
-  pub tables : All SoundStanding s.clients
+  pub tables : AllByRecursion SoundStanding s.clients
   pub as_many_cells : length s.cells ≡ length start
 
 -- ---- the counts
@@ -127,8 +127,8 @@ WithinHeld n (Some t) = Within n t.operations
 
 -- The log tells of operations on the first n cells only.
 pub record AllWithin (n : ℕ) (a : Account) : Type 0 where
-  pub of_held : All (WithinHeld n) a.held
-  pub of_ended : All (λ (e : EndedTransaction). Within n e.transaction.operations) a.ended
+  pub of_held : AllByRecursion (WithinHeld n) a.held
+  pub of_ended : AllByRecursion (λ (e : EndedTransaction). Within n e.transaction.operations) a.ended
 
 -- ---- declined calls
 
@@ -153,9 +153,9 @@ DeclinedCallsChangeNothing = (v : Contact → Verdict) (s : State) (k : Call) �
 
 -- Every contact that a request of an open client c puts to the rule is proper.
 pub record ProperContacts (s : State) (c n : ℕ) (es : List Entry) : Type 0 where
-  pub at_read : (x : ℕ) → All Proper (contacts_from (read_request c n x) 0 s.clients)
-  pub at_write : (x : ℕ) (r : Bool) → All Proper (contacts_from (write_request c n x r) 0 s.clients)
-  pub at_close : All Proper (contacts_from (close_request c n es) 0 s.clients)
+  pub at_read : (x : ℕ) → AllByRecursion Proper (contacts_from (read_request c n x) 0 s.clients)
+  pub at_write : (x : ℕ) (r : Bool) → AllByRecursion Proper (contacts_from (write_request c n x r) 0 s.clients)
+  pub at_close : AllByRecursion Proper (contacts_from (close_request c n es) 0 s.clients)
 
 abbrev pub ContactsAreProper : Type 0
 ContactsAreProper = (v : Contact → Verdict) (start : List ℕ) (log : List Exchange) (s : State) → Leads (step v) start log s → (c n : ℕ) (es : List Entry) → slice_index_or s.clients c idle ≡ open_with n es → ProperContacts s c n es
