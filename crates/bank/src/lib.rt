@@ -1,4 +1,6 @@
 // Banks of cells: what a bank is, the word bank over a lent row, and two layers over any bank.
+#![tactic(auto)]
+
 ghost use Rattle.std.specs.Prelude.{◌≡◌, ℕ, ◌≤◌, List, length};
 ghost use Rattle.refusal.specs.Labels.{reply_of};
 ghost use Rattle.bank.specs.Cells.{FitWords, reading, writing, written, Preserved, MovedBy};

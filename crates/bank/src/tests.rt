@@ -80,11 +80,11 @@ fn a_ninth_cell_sends_eight_down(rt: HostRuntime) -> Result<(), Fail> {
     bank.write(12, 2)?;
     assert_eq!(rt; bank.held().len(), 8);
     bank.write(0, 3)?;
-    assert_eq!(rt; bank.held(), &[HeldCell { cell: 0, value: 3 }]);
+    assert_eq!(rt; bank.held(), [HeldCell { cell: 0, value: 3 }].as_slice());
     assert_eq!(rt; bank.read(12), Ok(2));
     settle_upper(&mut bank);
     assert_eq!(rt; bank.held().len(), 0);
     let lower = bank.finish();
-    assert_eq!(rt; lower.held(), &[HeldCell { cell: 0, value: 3 }]);
+    assert_eq!(rt; lower.held(), [HeldCell { cell: 0, value: 3 }].as_slice());
     Ok(())
 }

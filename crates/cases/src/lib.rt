@@ -1,4 +1,6 @@
 // Cases worked by hand, and machines and rules that do not keep the promises.
+#![tactic(auto)]
+
 ghost use Rattle.cases.specs.Worked.{WorkedCases};
 ghost use Rattle.cases.specs.Wrong.{WrongMachinesAreRefused, BothLawsAreNeeded};
 

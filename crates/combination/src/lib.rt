@@ -1,4 +1,6 @@
 // A combination: values for the first cells of a bank, written all or not at all, through any layers.
+#![tactic(auto)]
+
 ghost use Rattle.std.specs.Prelude.{◌≡◌, ◌+◌, true, length, if◌then◌else◌};
 ghost use Rattle.refusal.specs.Labels.{reply_of};
 ghost use Rattle.bank.specs.Cells.{Preserved, MovedBy};

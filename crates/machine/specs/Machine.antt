@@ -1,5 +1,5 @@
 -- The step machine: what each call answers, and the state that it leaves. Assumes nothing.
-use Rattle.std.specs.Prelude.{ℕ, suc, ◌+◌, Bool, true, false, cond, List, [], ◌∷◌, ◌++◌, map, length, set, replicate, is_some, Some, None, Option, ◌==◌, nat_lt, slice_index, slice_index_or, slice_set}
+use Rattle.std.specs.Prelude.{ℕ, suc, ◌+◌, Bool, true, false, cond, List, [], ◌∷◌, ◌++◌, map, length, replicate, is_some, Some, None, Option, ◌==◌, nat_lt, slice_index, slice_index_or, slice_set}
 use Rattle.rule.specs.declared.Contact.{Contact}
 use Rattle.rule.specs.declared.Event.{Event}
 use Rattle.rule.specs.declared.Event.TheVariants.{Read, Write, Close}

@@ -1,4 +1,6 @@
 // The step machine of the engine, and what its runs keep.
+#![tactic(auto)]
+
 ghost use Rattle.machine.specs.States.{DeclinedCallsChangeNothing, ContactsAreProper, OnlyProperContactsCount};
 ghost use Rattle.machine.specs.Promises.{CommitsAreSerial, ReadsAreConsistent, YieldsAreCaused, StatesAreSound, NoOtherChanges, EveryCallKeeps, NewEngineKeeps, ListsOfCallsLead};
 

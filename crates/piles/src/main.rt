@@ -1,5 +1,7 @@
 // Piles of banks: makes a pile for each `p` line of the input, and answers every line.
 // docs/PILES.md sets the lines out.
+#![tactic(auto)]
+
 mod line;
 mod pile;
 mod reply;

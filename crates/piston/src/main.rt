@@ -1,4 +1,6 @@
 // A general piston of forty cells, set through a pile of layers on a row of words and read back.
+#![tactic(auto)]
+
 use bank::{Bank, HeldCell, HoldBack, Span, Window, WordBank};
 use refusal::Refusal;
 use std::io;

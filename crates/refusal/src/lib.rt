@@ -1,4 +1,6 @@
 // The numbered refusals of the whole library.
+#![tactic(auto)]
+
 ghost use Rattle.std.specs.Prelude.{◌≡◌, Some};
 ghost use Rattle.refusal.specs.Labels.{label_of, text_of};
 

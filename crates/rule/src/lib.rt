@@ -1,4 +1,6 @@
 // Who yields where two open transactions meet on a cell.
+#![tactic(auto)]
+
 ghost use Rattle.std.specs.Prelude.{◌≡◌};
 ghost use Rattle.rule.specs.Verdicts.{touched, invalidates, Enough, OnlyForCause, Lawful, closer_wins, newcomer_yields, elder_stands_lem, oldest_stands};
 ghost use Rattle.rule.specs.declared.Contact.{Contact};
