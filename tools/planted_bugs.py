@@ -15,7 +15,7 @@ import tempfile
 ROOT = os.path.dirname(os.path.dirname(os.path.abspath(__file__)))
 
 # What an error says where the proof file names something that the changed code has no more: it shows little of the contract.
-UNFIT = ("that can be named from here", "has no field", "is not in scope", "Lts·view")
+UNFIT = ("that can be named from here", "has no field", "is not in scope", "Lts.View")
 
 # crate, what the bug does, file, text that stands once in it, text in its place
 BUGS = [
@@ -281,14 +281,14 @@ BUGS = [
         'combination::press_row(&mut row, whole, span, &cancel)',
         'combination::press_row(&mut row, span, span, &cancel)'),
     ('piston', 'row not shown', 'src/main.rt',
-        '        print!(rt, " {word}")?;',
-        '        print!(rt, " {}", 0)?;'),
+        '        print!(rt; " {word}")?;',
+        '        print!(rt; " {}", 0)?;'),
     ('piston', 'held swapped', 'src/main.rt',
-        'print!(rt, " {cell}={value}")?;',
-        'print!(rt, " {value}={cell}")?;'),
+        'print!(rt; " {cell}={value}")?;',
+        'print!(rt; " {value}={cell}")?;'),
     ('piston', 'text of set', 'src/main.rt',
-        'println!(rt, "set {cell} to {value}: ok")?',
-        'println!(rt, "set {value} to {cell}: ok")?'),
+        'println!(rt; "set {cell} to {value}: ok")?',
+        'println!(rt; "set {value} to {cell}: ok")?'),
     ('piston', 'row length', 'src/main.rt',
         'let mut row = [1; FIRST + CELLS + 4];',
         'let mut row = [1; FIRST + CELLS + 3];'),
@@ -332,11 +332,11 @@ BUGS = [
         '                Verdict::OtherYields\n',
         '                Verdict::BothStand\n'),
     ('rule', 'closer wins at a write too', 'src/lib.rt',
-        '    ghost verdict = { λ _ k. closer-wins k };\n\n    fn judge(&self, contact: Contact) -> Verdict {\n        match contact.event {\n            Event::Read => Verdict::BothStand,\n            Event::Write => Verdict::BothStand,\n',
-        '    ghost verdict = { λ _ k. closer-wins k };\n\n    fn judge(&self, contact: Contact) -> Verdict {\n        match contact.event {\n            Event::Read => Verdict::BothStand,\n            Event::Write => Verdict::OtherYields,\n'),
+        '    ghost verdict = { λ _ k. closer_wins k };\n\n    ghost enough = { Prim.search rules };\n\n    ghost cause = { Prim.search rules };\n\n    fn judge(&self, contact: Contact) -> Verdict {\n        match contact.event {\n            Event::Read => Verdict::BothStand,\n            Event::Write => Verdict::BothStand,\n',
+        '    ghost verdict = { λ _ k. closer_wins k };\n\n    ghost enough = { Prim.search rules };\n\n    ghost cause = { Prim.search rules };\n\n    fn judge(&self, contact: Contact) -> Verdict {\n        match contact.event {\n            Event::Read => Verdict::BothStand,\n            Event::Write => Verdict::OtherYields,\n'),
     ('rule', 'closer lets both stand, contract too', 'src/lib.rt',
-        '    ghost verdict = { λ _ k. closer-wins k };\n\n    fn judge(&self, contact: Contact) -> Verdict {\n        match contact.event {\n            Event::Read => Verdict::BothStand,\n            Event::Write => Verdict::BothStand,\n            Event::Close => if contact.invalidates() {\n                Verdict::OtherYields\n            } else {\n                Verdict::BothStand\n            },\n        }\n    }\n',
-        '    ghost verdict = { λ _ _. Verdict.BothStand };\n\n    fn judge(&self, contact: Contact) -> Verdict {\n        match contact.event {\n            Event::Read => Verdict::BothStand,\n            Event::Write => Verdict::BothStand,\n            Event::Close => if contact.invalidates() {\n                Verdict::BothStand\n            } else {\n                Verdict::BothStand\n            },\n        }\n    }\n'),
+        '    ghost verdict = { λ _ k. closer_wins k };\n\n    ghost enough = { Prim.search rules };\n\n    ghost cause = { Prim.search rules };\n\n    fn judge(&self, contact: Contact) -> Verdict {\n        match contact.event {\n            Event::Read => Verdict::BothStand,\n            Event::Write => Verdict::BothStand,\n            Event::Close => if contact.invalidates() {\n                Verdict::OtherYields\n            } else {\n                Verdict::BothStand\n            },\n        }\n    }\n',
+        '    ghost verdict = { λ _ _. Verdict.BothStand };\n\n    ghost enough = { Prim.search rules };\n\n    ghost cause = { Prim.search rules };\n\n    fn judge(&self, contact: Contact) -> Verdict {\n        match contact.event {\n            Event::Read => Verdict::BothStand,\n            Event::Write => Verdict::BothStand,\n            Event::Close => if contact.invalidates() {\n                Verdict::BothStand\n            } else {\n                Verdict::BothStand\n            },\n        }\n    }\n'),
     ('rule', 'newcomer reads after a read', 'src/lib.rt',
         'Event::Read => contact.other.written,',
         'Event::Read => contact.other.read,'),
@@ -389,78 +389,78 @@ BUGS = [
         '            Event::Close => if contact.invalidates() {\n                elder_stands(',
         '            Event::Close => if contact.other.written {\n                elder_stands('),
     ('rule', 'oldest at a read too', 'src/lib.rt',
-        '    ghost verdict = { λ _ k. oldest-stands k };\n\n    fn judge(&self, contact: Contact) -> Verdict {\n        match contact.event {\n            Event::Read => Verdict::BothStand,\n            Event::Write => Verdict::BothStand,\n',
-        '    ghost verdict = { λ _ k. oldest-stands k };\n\n    fn judge(&self, contact: Contact) -> Verdict {\n        match contact.event {\n            Event::Read => elder_stands(contact.caller.number, contact.other.number),\n            Event::Write => Verdict::BothStand,\n'),
+        '    ghost verdict = { λ _ k. oldest_stands k };\n\n    ghost enough = { Prim.search rules };\n\n    ghost cause = { Prim.search rules };\n\n    fn judge(&self, contact: Contact) -> Verdict {\n        match contact.event {\n            Event::Read => Verdict::BothStand,\n            Event::Write => Verdict::BothStand,\n',
+        '    ghost verdict = { λ _ k. oldest_stands k };\n\n    ghost enough = { Prim.search rules };\n\n    ghost cause = { Prim.search rules };\n\n    fn judge(&self, contact: Contact) -> Verdict {\n        match contact.event {\n            Event::Read => elder_stands(contact.caller.number, contact.other.number),\n            Event::Write => Verdict::BothStand,\n'),
     ('rule', 'oldest without cause, contract too', 'src/lib.rt',
-        '    ghost verdict = { λ _ k. oldest-stands k };\n\n    fn judge(&self, contact: Contact) -> Verdict {\n        match contact.event {\n            Event::Read => Verdict::BothStand,\n            Event::Write => Verdict::BothStand,\n            Event::Close => if contact.invalidates() {\n                elder_stands(contact.caller.number, contact.other.number)\n            } else {\n                Verdict::BothStand\n            },\n        }\n    }\n',
-        '    ghost verdict = { λ _ k. elder-stands (k .caller .number) (k .other .number) };\n\n    fn judge(&self, contact: Contact) -> Verdict {\n        match contact.event {\n            Event::Read => elder_stands(contact.caller.number, contact.other.number),\n            Event::Write => elder_stands(contact.caller.number, contact.other.number),\n            Event::Close => if contact.invalidates() {\n                elder_stands(contact.caller.number, contact.other.number)\n            } else {\n                elder_stands(contact.caller.number, contact.other.number)\n            },\n        }\n    }\n'),
+        '    ghost verdict = { λ _ k. oldest_stands k };\n\n    ghost enough = { Prim.search rules };\n\n    ghost cause = { Prim.search rules };\n\n    fn judge(&self, contact: Contact) -> Verdict {\n        match contact.event {\n            Event::Read => Verdict::BothStand,\n            Event::Write => Verdict::BothStand,\n            Event::Close => if contact.invalidates() {\n                elder_stands(contact.caller.number, contact.other.number)\n            } else {\n                Verdict::BothStand\n            },\n        }\n    }\n',
+        '    ghost verdict = { λ _ k. elder_stands_lem k.caller.number k.other.number };\n\n    ghost enough = { Prim.search rules };\n\n    ghost cause = { Prim.search rules };\n\n    fn judge(&self, contact: Contact) -> Verdict {\n        match contact.event {\n            Event::Read => elder_stands(contact.caller.number, contact.other.number),\n            Event::Write => elder_stands(contact.caller.number, contact.other.number),\n            Event::Close => if contact.invalidates() {\n                elder_stands(contact.caller.number, contact.other.number)\n            } else {\n                elder_stands(contact.caller.number, contact.other.number)\n            },\n        }\n    }\n'),
     # the step machine: a wrong definition breaks a theorem about it or a worked case
     ('cases', 'machine: 64 entries are too many', '../machine/specs/Machine.antt',
-        'first-read v s c n es x = cond (ltb (length es) 64)',
-        'first-read v s c n es x = cond (ltb (length es) 63)'),
+        'first_read v s c n es x = cond (nat_lt (length es) 64)',
+        'first_read v s c n es x = cond (nat_lt (length es) 63)'),
     ('cases', 'machine: a 65th entry by a write', '../machine/specs/Machine.antt',
-        '    (cond (ltb (length es) 64) (judged-write',
-        '    (cond (ltb (length es) 65) (judged-write'),
+        '    (cond (nat_lt (length es) 64) (judged_write',
+        '    (cond (nat_lt (length es) 65) (judged_write'),
     ('cases', 'machine: one opening number more', '../machine/specs/Machine.antt',
-        'do-open s c = cond (ltb (s .opened) 4000000000)',
-        'do-open s c = cond (ltb (s .opened) 4000000001)'),
+        'do_open s c = cond (nat_lt s.opened 4000000000)',
+        'do_open s c = cond (nat_lt s.opened 4000000001)'),
     ('cases', 'machine: the marked client as its own winner', '../machine/specs/Machine.antt',
-        's (λ k. marked (q .caller) (k .cell))',
-        's (λ k. marked i (k .cell))'),
+        's (λ k. marked q.caller k.cell)',
+        's (λ k. marked i k.cell)'),
     ('cases', 'machine: contacts with oneself', '../machine/specs/Machine.antt',
-        'contacts-with q o (open-with n es) = cond (eqb o (q .caller)) [] (map (contact-at q o n es) (q .points))',
-        'contacts-with q o (open-with n es) = map (contact-at q o n es) (q .points)'),
+        'contacts_with q o (open_with n es) = cond (o == q.caller) [] (map (contact_at q o n es) q.points)',
+        'contacts_with q o (open_with n es) = map (contact_at q o n es) q.points'),
     ('cases', 'machine: the last client first', '../machine/specs/Machine.antt',
-        'contacts-from q i (s ∷ ss) = contacts-with q i s ++ contacts-from q (suc i) ss',
-        'contacts-from q i (s ∷ ss) = contacts-from q (suc i) ss ++ contacts-with q i s'),
+        'contacts_from q i (s ∷ ss) = contacts_with q i s ++ contacts_from q (suc i) ss',
+        'contacts_from q i (s ∷ ss) = contacts_from q (suc i) ss ++ contacts_with q i s'),
     ('cases', 'machine: a forgotten read', '../machine/specs/Machine.antt',
-        'was-read (Some e) = isSome (e .read)',
-        'was-read (Some e) = isSome (e .written)'),
+        'was_read (Some e) = is_some e.read',
+        'was_read (Some e) = is_some e.written'),
     ('cases', 'machine: a repeated read from the bank', '../machine/specs/Machine.antt',
         '(λ e. (value (known e), s))',
-        '(λ e. (value (getD (s .cells) x 0), s))'),
+        '(λ e. (value (slice_index s.cells x), s))'),
     ('cases', 'machine: the value read before the value written', '../machine/specs/Machine.antt',
-        'known e = maybe (e .written) (maybe (e .read) 0 (λ v. v)) (λ w. w)',
-        'known e = maybe (e .read) (maybe (e .written) 0 (λ v. v)) (λ w. w)'),
+        'known e = maybe e.written (maybe e.read 0 (λ v. v)) (λ w. w)',
+        'known e = maybe e.read (maybe e.written 0 (λ v. v)) (λ w. w)'),
     ('cases', 'machine: a fill that forgets the read', '../machine/specs/Machine.antt',
-        'with-written e v = record { cell = e .cell; read = e .read; written = Some v }',
-        'with-written e v = record { cell = e .cell; read = None; written = Some v }'),
+        'with_written e v = record { cell = e.cell; read = e.read; written = Some v }',
+        'with_written e v = record { cell = e.cell; read = None; written = Some v }'),
     ('cases', 'machine: a close that writes nothing', '../machine/specs/Machine.antt',
-        'record { cells = store es (t .cells); opened',
-        'record { cells = t .cells; opened'),
+        'record { cells = store es t.cells; opened',
+        'record { cells = t.cells; opened'),
     ('cases', 'machine: a commit not counted', '../machine/specs/Machine.antt',
-        'opened = t .opened; committed = t .committed + 1;',
-        'opened = t .opened; committed = t .committed;'),
+        'opened = t.opened; committed = t.committed + 1;',
+        'opened = t.opened; committed = t.committed;'),
     ('cases', 'machine: a cancel not counted', '../machine/specs/Machine.antt',
-        'cancelled = s .cancelled + 1; clients = set (s .clients) c idle })',
-        'cancelled = s .cancelled; clients = set (s .clients) c idle })'),
+        'cancelled = s.cancelled + 1; clients = slice_set s.clients c idle })',
+        'cancelled = s.cancelled; clients = slice_set s.clients c idle })'),
     ('cases', 'machine: an opening number too small', '../machine/specs/Machine.antt',
-        '(s .clients) c (open-with (s .opened + 1) [])',
-        '(s .clients) c (open-with (s .opened) [])'),
+        's.clients c (open_with (s.opened + 1) [])',
+        's.clients c (open_with s.opened [])'),
     ('cases', 'machine: a yield not counted', '../machine/specs/Machine.antt',
-        'yielded = s .yielded + 1;',
-        'yielded = s .yielded;'),
+        'yielded = s.yielded + 1;',
+        'yielded = s.yielded;'),
     ('cases', 'machine: a marked client that is refused with 4', '../machine/specs/Machine.antt',
-        '(refused 4, s) f (λ w x. (yields w x, end-yielding s c))',
+        '(refused 4, s) f (λ w x. (yields w x, end_yielding s c))',
         '(refused 4, s) f (λ w x. (refused 4, s))'),
     ('cases', 'machine: a marked client that opens', '../machine/specs/Machine.antt',
         '(λ n es. (refused 2, s)) (λ w x. (refused 2, s))',
-        '(λ n es. (refused 2, s)) (λ w x. do-open s c)'),
+        '(λ n es. (refused 2, s)) (λ w x. do_open s c)'),
     ('cases', 'machine: a yield that keeps its client', '../machine/specs/Machine.antt',
-        'cancelled = s .cancelled; clients = set (s .clients) c idle }\n\n-- The caller yields',
-        'cancelled = s .cancelled; clients = s .clients }\n\n-- The caller yields'),
+        'cancelled = s.cancelled; clients = slice_set s.clients c idle }\n\n-- The caller yields',
+        'cancelled = s.cancelled; clients = s.clients }\n\n-- The caller yields'),
     ('cases', 'machine: the caller named in a 5', '../machine/specs/Machine.antt',
-        '(λ k. (yields (k .other .client) (k .cell), end-yielding s (q .caller)))',
-        '(λ k. (yields (k .caller .client) (k .cell), end-yielding s (q .caller)))'),
+        '(λ k. (yields k.other.client k.cell, end_yielding s q.caller))',
+        '(λ k. (yields k.caller.client k.cell, end_yielding s q.caller))'),
     ('cases', 'machine: a cell beyond the last', '../machine/specs/Machine.antt',
-        'do-read v s c n es x = cond (ltb x (length (s .cells)))',
-        'do-read v s c n es x = cond (ltb x (suc (length (s .cells))))'),
+        'do_read v s c n es x = cond (nat_lt x (length s.cells))',
+        'do_read v s c n es x = cond (nat_lt x (suc (length s.cells)))'),
     ('cases', 'machine: the sides of a contact swapped', '../machine/specs/Machine.antt',
-        'caller = record { client = q .caller; number = q .number; read = p .read; written = p .written };',
-        'caller = record { client = q .caller; number = q .number; read = p .written; written = p .read };'),
+        'caller = record { client = q.caller; number = q.number; read = p.read; written = p.written };',
+        'caller = record { client = q.caller; number = q.number; read = p.written; written = p.read };'),
     ('cases', 'machine: a client 8', '../machine/specs/Machine.antt',
-        'if-open s c f = cond (ltb c 8)',
-        'if-open s c f = cond (ltb c 9)'),
+        'if_open s c f = cond (nat_lt c 8)',
+        'if_open s c f = cond (nat_lt c 9)'),
 ]
 
 
@@ -478,14 +478,15 @@ def plant(folder, crate, path, old, new):
 
 def verdict(folder, crate):
     """What the checker says of the crate in the copy; of a program, also whether it still writes what it should."""
-    program = os.path.exists(os.path.join(folder, "crates", crate, "src", "main.rt"))
-    command = ["rt", "check" if program else "dev", crate]
-    run = subprocess.run(command, cwd=folder, capture_output=True, text=True, errors="replace")
-    lines = (run.stdout + run.stderr).splitlines()
+    place = os.path.join(folder, "crates", crate)
+    program = os.path.exists(os.path.join(place, "src", "main.rt"))
+    run = subprocess.run(["rt", "run" if program else "check"], cwd=place, stdin=subprocess.DEVNULL, capture_output=True)
+    if program and run.returncode == 0:
+        with open(os.path.join(place, "stdout"), "rb") as file:
+            return "STILL PROVED" if run.stdout == file.read() else "refused: it writes something else"
     if run.returncode == 0:
         return "STILL PROVED"
-    if any("is not what its file 'stdout' has" in line for line in lines):
-        return "refused: it writes something else"
+    lines = (run.stdout + run.stderr).decode(errors="replace").splitlines()
     if not any(line.startswith("logic=not-proved") for line in lines):
         return "DOES NOT COMPILE: " + " / ".join(line for line in lines if "error" in line)[:300]
     errors = [line for line in lines if ": error" in line]
@@ -504,12 +505,8 @@ def main():
     with tempfile.TemporaryDirectory() as scratch:
         copy = os.path.join(scratch, "copy")
         os.mkdir(copy)
-        for part in ("crates", "crates.txt", "target"):
-            source = os.path.join(ROOT, part)
-            if os.path.isdir(source):
-                shutil.copytree(source, os.path.join(copy, part))
-            elif os.path.exists(source):
-                shutil.copy(source, copy)
+        shutil.copytree(os.path.join(ROOT, "crates"), os.path.join(copy, "crates"), ignore=shutil.ignore_patterns("out"))
+        shutil.copy(os.path.join(ROOT, "crates.txt"), copy)
         for crate, label, path, old, new in BUGS:
             if wanted and crate not in wanted:
                 continue
