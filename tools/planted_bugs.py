@@ -15,7 +15,7 @@ import tempfile
 ROOT = os.path.dirname(os.path.dirname(os.path.abspath(__file__)))
 
 # What an error says where the proof file names something that the changed code has no more: it shows little of the contract.
-UNFIT = ("that can be named from here", "has no field", "is not in scope", "Lts.View")
+UNFIT = ("that can be named from here", "has no field", "has no `", "is not in scope", "was not admitted")
 
 # crate, what the bug does, file, text that stands once in it, text in its place
 BUGS = [
@@ -393,7 +393,7 @@ BUGS = [
         '    ghost verdict = { λ _ k. oldest_stands k };\n\n    ghost enough = { Prim.search rules };\n\n    ghost cause = { Prim.search rules };\n\n    fn judge(&self, contact: Contact) -> Verdict {\n        match contact.event {\n            Event::Read => elder_stands(contact.caller.number, contact.other.number),\n            Event::Write => Verdict::BothStand,\n'),
     ('rule', 'oldest without cause, contract too', 'src/lib.rt',
         '    ghost verdict = { λ _ k. oldest_stands k };\n\n    ghost enough = { Prim.search rules };\n\n    ghost cause = { Prim.search rules };\n\n    fn judge(&self, contact: Contact) -> Verdict {\n        match contact.event {\n            Event::Read => Verdict::BothStand,\n            Event::Write => Verdict::BothStand,\n            Event::Close => if contact.invalidates() {\n                elder_stands(contact.caller.number, contact.other.number)\n            } else {\n                Verdict::BothStand\n            },\n        }\n    }\n',
-        '    ghost verdict = { λ _ k. elder_stands_lem k.caller.number k.other.number };\n\n    ghost enough = { Prim.search rules };\n\n    ghost cause = { Prim.search rules };\n\n    fn judge(&self, contact: Contact) -> Verdict {\n        match contact.event {\n            Event::Read => elder_stands(contact.caller.number, contact.other.number),\n            Event::Write => elder_stands(contact.caller.number, contact.other.number),\n            Event::Close => if contact.invalidates() {\n                elder_stands(contact.caller.number, contact.other.number)\n            } else {\n                elder_stands(contact.caller.number, contact.other.number)\n            },\n        }\n    }\n'),
+        '    ghost verdict = { λ _ k. elder_verdict k.caller.number k.other.number };\n\n    ghost enough = { Prim.search rules };\n\n    ghost cause = { Prim.search rules };\n\n    fn judge(&self, contact: Contact) -> Verdict {\n        match contact.event {\n            Event::Read => elder_stands(contact.caller.number, contact.other.number),\n            Event::Write => elder_stands(contact.caller.number, contact.other.number),\n            Event::Close => if contact.invalidates() {\n                elder_stands(contact.caller.number, contact.other.number)\n            } else {\n                elder_stands(contact.caller.number, contact.other.number)\n            },\n        }\n    }\n'),
     # the step machine: a wrong definition breaks a theorem about it or a worked case
     ('cases', 'machine: 64 entries are too many', '../machine/specs/Machine.antt',
         'first_read v s c n es x = cond (nat_lt (length es) 64)',
@@ -479,13 +479,9 @@ def plant(folder, crate, path, old, new):
 def verdict(folder, crate):
     """What the checker says of the crate in the copy; of a program, also whether it still writes what it should."""
     place = os.path.join(folder, "crates", crate)
-    program = os.path.exists(os.path.join(place, "src", "main.rt"))
-    run = subprocess.run(["rt", "run" if program else "check"], cwd=place, stdin=subprocess.DEVNULL, capture_output=True)
-    if program and run.returncode == 0:
-        with open(os.path.join(place, "stdout"), "rb") as file:
-            return "STILL PROVED" if run.stdout == file.read() else "refused: it writes something else"
+    run = subprocess.run(["rt", "check"], cwd=place, stdin=subprocess.DEVNULL, capture_output=True)
     if run.returncode == 0:
-        return "STILL PROVED"
+        return written(place) if os.path.exists(os.path.join(place, "src", "main.rt")) else "STILL PROVED"
     lines = (run.stdout + run.stderr).decode(errors="replace").splitlines()
     if not any(line.startswith("logic=not-proved") for line in lines):
         return "DOES NOT COMPILE: " + " / ".join(line for line in lines if "error" in line)[:300]
@@ -493,6 +489,16 @@ def verdict(folder, crate):
     if errors and any(word in errors[0] for word in UNFIT):
         return "refused, but first because the proof file does not fit: " + errors[0][:200]
     return "refused"
+
+
+def written(place):
+    """Of a proved program: whether it writes what it should, on the input that is stored with it."""
+    given = os.path.join(place, "stdin")
+    with open(given if os.path.exists(given) else os.devnull, "rb") as source:
+        run = subprocess.run(["rt", "run"], cwd=place, stdin=source, capture_output=True)
+    with open(os.path.join(place, "stdout"), "rb") as file:
+        same = run.returncode == 0 and run.stdout == file.read()
+    return "STILL PROVED" if same else "refused: it writes something else"
 
 
 def main():

@@ -9,7 +9,7 @@ use Rattle.machine.specs.declared.Entry.{Entry}
 use Rattle.machine.specs.Machine.{State, Standing, idle, open_with, marked, Call, open_by, read_by, write_by, close_by, cancel_by, caller_of, Answer, opened_as, value, ok, committed_as, yields, refused, maybe, close_request, mark_from, with_clients, put_standing, by_standing, step}
 use Rattle.machine.specs.Log.{Exchange, account_of}
 use Rattle.machine.specs.Runs.{Steps, Leads, SerialCommits, ConsistentReads, Changes}
-use Rattle.machine.specs.States.{SameTransactions, AllWithin}
+use Rattle.machine.specs.States.{SameTransactions, AccountWithin}
 
 -- ---- the promises, of any machine
 
@@ -23,7 +23,7 @@ abbrev pub ChangesForCause : (Contact → Verdict) → Steps → Type 0
 ChangesForCause v m = (start : List ℕ) (log : List Exchange) (s : State) → Leads m start log s → (k : Call) → Changes v s (account_of log) k (m s k).0 (m s k).1
 
 abbrev pub StaysWithin : Steps → Type 0
-StaysWithin m = (start : List ℕ) (log : List Exchange) (s : State) → Leads m start log s → AllWithin (length start) (account_of log)
+StaysWithin m = (start : List ℕ) (log : List Exchange) (s : State) → Leads m start log s → AccountWithin (length start) (account_of log)
 
 abbrev pub HoldsWhatIsTold : Steps → Type 0
 HoldsWhatIsTold m = (start : List ℕ) (log : List Exchange) (s : State) → Leads m start log s → SameTransactions s (account_of log)

@@ -12,7 +12,7 @@ use Rattle.rule.specs.declared.Verdict.TheVariants.{BothStand, CallerYields, Oth
 use Rattle.machine.specs.declared.Entry.{Entry}
 use Rattle.machine.specs.Machine.{State, Standing, idle, open_with, marked, Call, open_by, read_by, write_by, close_by, cancel_by, caller_of, Answer, declined_with, entry_of, was_read, was_written, maybe, Point, point_of, Request, read_request, write_request, close_request, contact_at, contacts_with, contacts_from, first_that, is_caller_yields, is_other_yields, mark_one, mark_from, first_yield, step}
 use Rattle.machine.specs.Log.{Exchange, Transaction, Account, transaction_of, account_of, table_of}
-use Rattle.machine.specs.Runs.{Leads, HasTouched, HasWritten, operations_of, entry_told, number_told, event_of, side_of_caller, side_of_other, contact_told, JudgedOn, TouchedBy, WrittenBy, IsOpen, IsUnmarked, CauseToYield, Change, does_not_call, is_refused, begins, reads_on, writes_on, yields_at_once, gets_marked, stays_marked, Changes}
+use Rattle.machine.specs.Runs.{Leads, HasTouchedCell, HasWrittenCell, operations_of, entry_told, number_told, event_of, side_of_caller, side_of_other, contact_told, JudgedOn, TouchedBy, WrittenBy, IsOpen, IsUnmarked, CauseToYield, Change, does_not_call, is_refused, begins, reads_on, writes_on, yields_at_once, gets_marked, stays_marked, Changes}
 use Rattle.machine.specs.Runs as run
 use Rattle.machine.specs.States.{SoundTable}
 use Rattle.machine.proofs.Operations.{writes_touches}
@@ -66,10 +66,10 @@ module _ (start : List ℕ) (s : State) (a : Account) (i : Tied start s a) where
     table_is : es ≡ table_of (operations_of a d)
     begun : transaction_of a d ≡ None → ⊥
     table : SoundTable es
-    touch : (x : ℕ) → (was_read (entry_of x es) || was_written (entry_of x es)) ≡ true → HasTouched x (operations_of a d)
-    write : (x : ℕ) → was_written (entry_of x es) ≡ true → HasWritten x (operations_of a d)
-    untouched : (x : ℕ) → entry_of x es ≡ None → HasTouched x (operations_of a d) → ⊥
-    unwritten : (x : ℕ) → was_written (entry_of x es) ≡ false → HasWritten x (operations_of a d) → ⊥
+    touch : (x : ℕ) → (was_read (entry_of x es) || was_written (entry_of x es)) ≡ true → HasTouchedCell x (operations_of a d)
+    write : (x : ℕ) → was_written (entry_of x es) ≡ true → HasWrittenCell x (operations_of a d)
+    untouched : (x : ℕ) → entry_of x es ≡ None → HasTouchedCell x (operations_of a d) → ⊥
+    unwritten : (x : ℕ) → was_written (entry_of x es) ≡ false → HasWrittenCell x (operations_of a d) → ⊥
 
   table_tells : (d n : ℕ) (es : List Entry) → get_or s.clients d idle ≡ open_with n es → Tells d n es
   table_tells d n es p =
@@ -80,10 +80,10 @@ module _ (start : List ℕ) (s : State) (a : Account) (i : Tied start s a) where
         table_is = h.2.is_table ∙ ap table_of o;
         begun = some≢none h.0 (transaction_of a d) h.1;
         table = h.2.table;
-        touch = λ x t. subst (HasTouched x) o (elim (or_cases (was_read (entry_of x es)) (was_written (entry_of x es)) t) [ inl r ↦ h.2.touch x r | inr w ↦ writes_touches h.0.operations x (h.2.write x w) ]);
-        write = λ x w. subst (HasWritten x) o (h.2.write x w);
-        untouched = λ x n t. h.2.untouched x n (subst (HasTouched x) (sym o) t);
-        unwritten = λ x n t. h.2.unwritten x n (subst (HasWritten x) (sym o) t);
+        touch = λ x t. subst (HasTouchedCell x) o (elim (or_cases (was_read (entry_of x es)) (was_written (entry_of x es)) t) [ inl r ↦ h.2.touch x r | inr w ↦ writes_touches h.0.operations x (h.2.write x w) ]);
+        write = λ x w. subst (HasWrittenCell x) o (h.2.write x w);
+        untouched = λ x n t. h.2.untouched x n (subst (HasTouchedCell x) (sym o) t);
+        unwritten = λ x n t. h.2.unwritten x n (subst (HasWrittenCell x) (sym o) t);
       }
 
   -- ---- contacts
@@ -149,8 +149,8 @@ module _ (start : List ℕ) (s : State) (a : Account) (i : Tied start s a) where
     other_open : IsOpen (get_or s.clients m.other.client idle)
     touches : touched m.caller ≡ true → TouchedBy a k (caller_of k) m.cell
     writes : m.caller.written ≡ true → WrittenBy a k (caller_of k) m.cell
-    other_touches : touched m.other ≡ true → HasTouched m.cell (operations_of a m.other.client)
-    other_writes : m.other.written ≡ true → HasWritten m.cell (operations_of a m.other.client)
+    other_touches : touched m.other ≡ true → HasTouchedCell m.cell (operations_of a m.other.client)
+    other_writes : m.other.written ≡ true → HasWrittenCell m.cell (operations_of a m.other.client)
 
   module _ (k : Call) (q : Request) (c : q.caller ≡ caller_of k) (l : caller_of k < 8) (asked : AllByRecursion (Asked k q) q.points) where
     met_with : (d : ℕ) (st : Standing) → get_or s.clients d idle ≡ st → AllByRecursion (λ (m : Contact). Met k m × (m.other.client ≡ d)) (contacts_with q d st)

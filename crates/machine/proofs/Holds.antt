@@ -4,7 +4,7 @@ use Rattle.std.proofs.lemmas.Bool.{cases_eq, false≢true, true≢false}
 use Rattle.machine.specs.declared.Entry.{Entry}
 use Rattle.machine.specs.Machine.{entry_of, known, read_entry, fill, store, was_read, was_written, maybe}
 use Rattle.machine.specs.Log.{Operation, reads, writes, left_by, tabled, tabled_all, table_of}
-use Rattle.machine.specs.Runs.{HasTouched, HasWritten}
+use Rattle.machine.specs.Runs.{HasTouchedCell, HasWrittenCell}
 use Rattle.machine.proofs.Operations.{Alone, left_read, left_write, alone_read, alone_write, touches_old, touches_new, touches_split, writes_old, writes_new, writes_split}
 use Rattle.machine.specs.States.{SoundTable}
 use Rattle.machine.proofs.Tables.{read_of, written_of, some≢none, some_same, entry_old, entry_new, entry_here, entry_push, was_read_is, was_written_is, read_fill, entry_fill_same, entry_fill_other, table_push, table_fill, table_known, store_fill, store_absent, store_at, store_push, option_cases}
@@ -19,11 +19,11 @@ pub record Holds (cells : List ℕ) (es : List Entry) (ops : List Operation) : T
   pub table : SoundTable es
   pub alone : (cs : List ℕ) → length cs ≡ length cells → Agrees es cs → Alone ops cs
   pub left : (cs : List ℕ) → length cs ≡ length cells → left_by ops cs ≡ store es cs
-  pub touch : (x : ℕ) → was_read (entry_of x es) ≡ true → HasTouched x ops
-  pub write : (x : ℕ) → was_written (entry_of x es) ≡ true → HasWritten x ops
+  pub touch : (x : ℕ) → was_read (entry_of x es) ≡ true → HasTouchedCell x ops
+  pub write : (x : ℕ) → was_written (entry_of x es) ≡ true → HasWrittenCell x ops
   pub is_table : es ≡ table_of ops
-  pub untouched : (x : ℕ) → entry_of x es ≡ None → HasTouched x ops → ⊥
-  pub unwritten : (x : ℕ) → was_written (entry_of x es) ≡ false → HasWritten x ops → ⊥
+  pub untouched : (x : ℕ) → entry_of x es ≡ None → HasTouchedCell x ops → ⊥
+  pub unwritten : (x : ℕ) → was_written (entry_of x es) ≡ false → HasWrittenCell x ops → ⊥
 
 -- the table after one more operation
 tabled_push : (es : List Entry) (ops : List Operation) (o : Operation) → tabled_all es (ops ++ (o ∷ [])) ≡ tabled (tabled_all es ops) o

@@ -1,7 +1,7 @@
 -- What a transaction that is run alone leaves, cell by cell, and what its reads show. Assumes nothing.
 use Rattle.std.proofs.Common.{◌≡◌, ℕ, ◌<◌, List, [], ◌∷◌, ◌++◌, length, get_or, set, sym, refl, ◌∙◌, subst, inl, inr, length-set, get_or-set_other, get_or-set_same}
 use Rattle.machine.specs.Log.{Operation, reads, writes, left_by, left_by_all}
-use Rattle.machine.specs.Runs.{HasWritten, ReadsAlone, Leaves}
+use Rattle.machine.specs.Runs.{HasWrittenCell, ReadsAlone, Leaves}
 use Rattle.machine.proofs.Operations.{Alone}
 use Rattle.machine.specs.States.{Within}
 
@@ -14,12 +14,12 @@ pub left_all_long : (ts : List (List Operation)) (cells : List ℕ) → length (
 left_all_long [] cells = refl
 left_all_long (t ∷ ts) cells = left_all_long ts (left_by t cells) ∙ left_long t cells
 
-left_kept : (ops : List Operation) (cells : List ℕ) (x : ℕ) → (HasWritten x ops → ⊥) → get_or (left_by ops cells) x 0 ≡ get_or cells x 0
+left_kept : (ops : List Operation) (cells : List ℕ) (x : ℕ) → (HasWrittenCell x ops → ⊥) → get_or (left_by ops cells) x 0 ≡ get_or cells x 0
 left_kept [] cells x h = refl
 left_kept (reads y v ∷ ops) cells x h = left_kept ops cells x h
 left_kept (writes y v ∷ ops) cells x h = left_kept ops (set cells y v) x (λ w. h (inr w)) ∙ get_or-set_other cells y x v 0 (λ e. h (inl (sym e)))
 
-left_written : (front back : List Operation) (cells : List ℕ) (x u : ℕ) → (HasWritten x back → ⊥) → x < length cells → get_or (left_by (front ++ (writes x u ∷ back)) cells) x 0 ≡ u
+left_written : (front back : List Operation) (cells : List ℕ) (x u : ℕ) → (HasWrittenCell x back → ⊥) → x < length cells → get_or (left_by (front ++ (writes x u ∷ back)) cells) x 0 ≡ u
 left_written [] back cells x u h l = left_kept back (set cells x u) x h ∙ get_or-set_same cells x u 0 l
 left_written (reads y v ∷ front) back cells x u h l = left_written front back cells x u h l
 left_written (writes y v ∷ front) back cells x u h l = left_written front back (set cells y v) x u h (subst (λ (n : ℕ). x < n) (sym (length-set cells y v)) l)
@@ -31,7 +31,7 @@ shows [] back x v cells h = h.0
 shows (reads y u ∷ front) back x v cells h = shows front back x v cells h.1
 shows (writes y u ∷ front) back x v cells h = shows front back x v (set cells y u) h
 
-shows_own : (front middle back : List Operation) (x v u : ℕ) (cells : List ℕ) → (HasWritten x middle → ⊥) → x < length cells → Alone (front ++ (writes x u ∷ (middle ++ (reads x v ∷ back)))) cells → v ≡ u
+shows_own : (front middle back : List Operation) (x v u : ℕ) (cells : List ℕ) → (HasWrittenCell x middle → ⊥) → x < length cells → Alone (front ++ (writes x u ∷ (middle ++ (reads x v ∷ back)))) cells → v ≡ u
 shows_own [] middle back x v u cells n l h = shows middle back x v (set cells x u) h ∙ left_kept middle (set cells x u) x n ∙ get_or-set_same cells x u 0 l
 shows_own (reads y w ∷ front) middle back x v u cells n l h = shows_own front middle back x v u cells n l h.1
 shows_own (writes y w ∷ front) middle back x v u cells n l h = shows_own front middle back x v u (set cells y w) n (subst (λ (m : ℕ). x < m) (sym (length-set cells y w)) l) h

@@ -1,7 +1,7 @@
 -- One more operation at the end of a transaction. Assumes nothing.
 use Rattle.std.proofs.Common.{◌≡◌, ℕ, ◌⊎◌, List, [], ◌∷◌, ◌++◌, get_or, set, refl, inl, inr}
 use Rattle.machine.specs.Log.{Operation, reads, writes, left_by}
-use Rattle.machine.specs.Runs.{HasTouched, HasWritten}
+use Rattle.machine.specs.Runs.{HasTouchedCell, HasWrittenCell}
 
 -- every read shows what the cells have, after the writes before it
 abbrev pub Alone : List Operation → List ℕ → Type 0
@@ -29,37 +29,37 @@ alone_write [] cs x v h = tt
 alone_write (reads y u ∷ ops) cs x v h = (h.0, alone_write ops cs x v h.1)
 alone_write (writes y u ∷ ops) cs x v h = alone_write ops (set cs y u) x v h
 
-pub touches_old : (ops more : List Operation) (x : ℕ) → HasTouched x ops → HasTouched x (ops ++ more)
+pub touches_old : (ops more : List Operation) (x : ℕ) → HasTouchedCell x ops → HasTouchedCell x (ops ++ more)
 touches_old [] more x h = elim h [ ]
 touches_old (reads y u ∷ ops) more x h = elim h [ inl e ↦ inl e | inr t ↦ inr (touches_old ops more x t) ]
 touches_old (writes y u ∷ ops) more x h = elim h [ inl e ↦ inl e | inr t ↦ inr (touches_old ops more x t) ]
 
-pub touches_new : (ops more : List Operation) (x : ℕ) → HasTouched x more → HasTouched x (ops ++ more)
+pub touches_new : (ops more : List Operation) (x : ℕ) → HasTouchedCell x more → HasTouchedCell x (ops ++ more)
 touches_new [] more x h = h
 touches_new (reads y u ∷ ops) more x h = inr (touches_new ops more x h)
 touches_new (writes y u ∷ ops) more x h = inr (touches_new ops more x h)
 
-pub writes_old : (ops more : List Operation) (x : ℕ) → HasWritten x ops → HasWritten x (ops ++ more)
+pub writes_old : (ops more : List Operation) (x : ℕ) → HasWrittenCell x ops → HasWrittenCell x (ops ++ more)
 writes_old [] more x h = elim h [ ]
 writes_old (reads y u ∷ ops) more x h = writes_old ops more x h
 writes_old (writes y u ∷ ops) more x h = elim h [ inl e ↦ inl e | inr t ↦ inr (writes_old ops more x t) ]
 
-pub writes_new : (ops more : List Operation) (x : ℕ) → HasWritten x more → HasWritten x (ops ++ more)
+pub writes_new : (ops more : List Operation) (x : ℕ) → HasWrittenCell x more → HasWrittenCell x (ops ++ more)
 writes_new [] more x h = h
 writes_new (reads y u ∷ ops) more x h = writes_new ops more x h
 writes_new (writes y u ∷ ops) more x h = inr (writes_new ops more x h)
 
-pub writes_touches : (ops : List Operation) (x : ℕ) → HasWritten x ops → HasTouched x ops
+pub writes_touches : (ops : List Operation) (x : ℕ) → HasWrittenCell x ops → HasTouchedCell x ops
 writes_touches [] x h = h
 writes_touches (reads y u ∷ ops) x h = inr (writes_touches ops x h)
 writes_touches (writes y u ∷ ops) x h = elim h [ inl e ↦ inl e | inr t ↦ inr (writes_touches ops x t) ]
 
-pub touches_split : (ops more : List Operation) (x : ℕ) → HasTouched x (ops ++ more) → HasTouched x ops ⊎ HasTouched x more
+pub touches_split : (ops more : List Operation) (x : ℕ) → HasTouchedCell x (ops ++ more) → HasTouchedCell x ops ⊎ HasTouchedCell x more
 touches_split [] more x h = inr h
 touches_split (reads y u ∷ ops) more x h = elim h [ inl e ↦ inl (inl e) | inr t ↦ elim (touches_split ops more x t) [ inl a ↦ inl (inr a) | inr b ↦ inr b ] ]
 touches_split (writes y u ∷ ops) more x h = elim h [ inl e ↦ inl (inl e) | inr t ↦ elim (touches_split ops more x t) [ inl a ↦ inl (inr a) | inr b ↦ inr b ] ]
 
-pub writes_split : (ops more : List Operation) (x : ℕ) → HasWritten x (ops ++ more) → HasWritten x ops ⊎ HasWritten x more
+pub writes_split : (ops more : List Operation) (x : ℕ) → HasWrittenCell x (ops ++ more) → HasWrittenCell x ops ⊎ HasWrittenCell x more
 writes_split [] more x h = inr h
 writes_split (reads y u ∷ ops) more x h = writes_split ops more x h
 writes_split (writes y u ∷ ops) more x h = elim h [ inl e ↦ inl (inl e) | inr t ↦ elim (writes_split ops more x t) [ inl a ↦ inl (inr a) | inr b ↦ inr b ] ]

@@ -39,7 +39,7 @@ well_run v law start r = record {
   sound = sound v start r;
   counts = counts v start r;
   same_transactions = same v law start r;
-  all_within = within v start r;
+  account_within = within v start r;
 }
 
 pub commits_are_serial_lem : CommitsAreSerial

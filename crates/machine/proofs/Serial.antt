@@ -8,7 +8,7 @@ use Rattle.machine.specs.Log.{Exchange, Operation, by_commit, EndedTransaction, 
 use Rattle.machine.specs.Runs.{Leads, new, more, ReadsAlone, Leaves, Serially, SerialCommits}
 use Rattle.machine.proofs.Turns.{Turn, none, begins, reads_on, writes_on, ends_commit, ends_cancel, ends_yield, turn, recorded_push}
 use Rattle.machine.proofs.Ties.{Tied, commits_push, open_alone, tied}
-use Rattle.machine.specs.States.{Within, AllWithin}
+use Rattle.machine.specs.States.{Within, AccountWithin}
 use Rattle.machine.proofs.Within.{Grants, within_at, grants, within}
 use Rattle.machine.proofs.Meaning.{left_all_long, leaves, reads_alone}
 
@@ -30,7 +30,7 @@ otherwise : (start : List ℕ) (es : List EndedTransaction) (e : EndedTransactio
     → Serially start (commits_of (es ++ (e ∷ []))) (left_by_all (commits_of (es ++ (e ∷ []))) start)
 otherwise start es e n h = serially_same start _ (commits_of es) (commits_push es e ∙ ap (λ (z : List (List Operation)). commits_of es ++ z) n ∙ append-nil (commits_of es)) h
 
-serial_turn : (start : List ℕ) (s u : State) {a b : Account} {k : Call} {r : Answer} → Turn a k r b → SerialAccount start a → Tied start s a → AllWithin (length start) a → Grants (length start) s k r u → SerialAccount start b
+serial_turn : (start : List ℕ) (s u : State) {a b : Account} {k : Call} {r : Answer} → Turn a k r b → SerialAccount start a → Tied start s a → AccountWithin (length start) a → Grants (length start) s k r u → SerialAccount start b
 serial_turn start s u none h i w g = h
 serial_turn start s u begins h i w g = h
 serial_turn start s u (reads_on t p) h i w g = h

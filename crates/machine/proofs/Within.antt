@@ -6,7 +6,7 @@ use Rattle.rule.specs.declared.Verdict.{Verdict}
 use Rattle.machine.specs.Machine.{State, idle, Call, open_by, read_by, write_by, close_by, cancel_by, caller_of, Answer, opened_as, value, ok, committed_as, yields, refused, read_request, mark_from, step}
 use Rattle.machine.specs.Log.{Exchange, Operation, reads, writes, Transaction, Ending, EndedTransaction, Account, transaction_of, one_more, ended_as, account_of}
 use Rattle.machine.specs.Runs.{Leads, new, more, IsOpen}
-use Rattle.machine.specs.States.{Within, WithinHeld, AllWithin}
+use Rattle.machine.specs.States.{Within, WithinHeld, AccountWithin}
 use Rattle.machine.proofs.Places.{all_places}
 use Rattle.machine.proofs.Contacts.{length-mark}
 use Rattle.machine.proofs.Turns.{Turn, none, begins, reads_on, writes_on, ends_commit, ends_cancel, ends_yield, turn, recorded_push}
@@ -64,16 +64,16 @@ within_push n (reads x v ∷ ops) o h k = (h.0, within_push n ops o h.1 k)
 within_push n (writes x v ∷ ops) o h k = (h.0, within_push n ops o h.1 k)
 
 -- the operations of a transaction that is held
-pub within_at : (n : ℕ) (a : Account) (c : ℕ) (t : Transaction) → AllWithin n a → transaction_of a c ≡ Some t → Within n t.operations
+pub within_at : (n : ℕ) (a : Account) (c : ℕ) (t : Transaction) → AccountWithin n a → transaction_of a c ≡ Some t → Within n t.operations
 within_at n a c t i p = subst (WithinHeld n) p (all_places (WithinHeld n) a.held c None tt i.of_held)
 
-ended_within : (n : ℕ) (a : Account) (c : ℕ) (e : Ending) (t : Transaction) → AllWithin n a → transaction_of a c ≡ Some t → AllWithin n (ended_as a c e t)
+ended_within : (n : ℕ) (a : Account) (c : ℕ) (e : Ending) (t : Transaction) → AccountWithin n a → transaction_of a c ≡ Some t → AccountWithin n (ended_as a c e t)
 ended_within n a c e t i p = record {
   of_held = All-set (WithinHeld n) a.held c None tt i.of_held;
   of_ended = All-push (λ (d : EndedTransaction). Within n d.transaction.operations) a.ended _ i.of_ended (within_at n a c t i p);
 }
 
-turn_within : (n : ℕ) (s t : State) {a b : Account} {k : Call} {r : Answer} → Turn a k r b → AllWithin n a → Grants n s k r t → AllWithin n b
+turn_within : (n : ℕ) (s t : State) {a b : Account} {k : Call} {r : Answer} → Turn a k r b → AccountWithin n a → Grants n s k r t → AccountWithin n b
 turn_within n s t none i g = i
 turn_within n s t {a = a} (begins {k = k}) i g = record { of_held = All-set (WithinHeld n) a.held (caller_of k) _ tt i.of_held; of_ended = i.of_ended }
 turn_within n s t {a = a} (reads_on {c = c} {x = x} {v = v} u p) i g = record {
@@ -88,7 +88,7 @@ turn_within n s t {a = a} (ends_commit {k = k} u p) i g = ended_within n a (call
 turn_within n s t {a = a} (ends_cancel {c = c} u p) i g = ended_within n a c _ u i p
 turn_within n s t {a = a} (ends_yield {k = k} u p) i g = ended_within n a (caller_of k) _ u i p
 
-pub within : (v : Contact → Verdict) (start : List ℕ) {log : List Exchange} {s : State} → Leads (step v) start log s → AllWithin (length start) (account_of log)
+pub within : (v : Contact → Verdict) (start : List ℕ) {log : List Exchange} {s : State} → Leads (step v) start log s → AccountWithin (length start) (account_of log)
 within v start new = record { of_held = (tt, (tt, (tt, (tt, (tt, (tt, (tt, (tt, tt)))))))); of_ended = tt }
-within v start (more {log = log} {s = s} r k) = subst (AllWithin (length start)) (sym (recorded_push _ log _))
+within v start (more {log = log} {s = s} r k) = subst (AccountWithin (length start)) (sym (recorded_push _ log _))
     (turn_within (length start) s (step v s k).1 (turn (account_of log) k (step v s k).0) (within v start r) (grants v start r k))

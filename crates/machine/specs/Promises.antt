@@ -6,7 +6,7 @@ use Rattle.rule.specs.declared.Verdict.{Verdict}
 use Rattle.machine.specs.Machine.{State, fresh, Call, Answer, step}
 use Rattle.machine.specs.Log.{Exchange, and_then, account_of}
 use Rattle.machine.specs.Runs.{Steps, Leads, run, SerialCommits, ConsistentReads, CausedYields, Changes}
-use Rattle.machine.specs.States.{Sound, CountsOf, SameTransactions, AllWithin, IfDeclined}
+use Rattle.machine.specs.States.{Sound, CountsOf, SameTransactions, AccountWithin, IfDeclined}
 
 -- Under every lawful rule, every log that leads a new engine to a state has P.
 abbrev pub OfEveryRun : ((Contact → Verdict) → Steps → List ℕ → List Exchange → State → Type 0) → Type 0
@@ -23,7 +23,7 @@ YieldsAreCaused = OfEveryRun (λ v m start log s. CausedYields v m start log s)
 
 -- the counts, the clients, the tables and the transactions held
 abbrev pub StatesAreSound : Type 0
-StatesAreSound = OfEveryRun (λ v m start log s. Sound start s × CountsOf log s × SameTransactions s (account_of log) × AllWithin (length start) (account_of log))
+StatesAreSound = OfEveryRun (λ v m start log s. Sound start s × CountsOf log s × SameTransactions s (account_of log) × AccountWithin (length start) (account_of log))
 
 -- at the next call each client changes in one of the listed ways
 abbrev pub NoOtherChanges : Type 0
@@ -38,7 +38,7 @@ pub record WellRun (v : Contact → Verdict) (m : Steps) (start : List ℕ) (log
   pub sound : Sound start s
   pub counts : CountsOf log s
   pub same_transactions : SameTransactions s (account_of log)
-  pub all_within : AllWithin (length start) (account_of log)
+  pub account_within : AccountWithin (length start) (account_of log)
 
 -- The log led to s, where the call k is answered r and leaves t: what is kept under the rule v.
 pub record Kept (v : Contact → Verdict) (m : Steps) (start : List ℕ) (log : List Exchange) (s : State) (k : Call) (r : Answer) (t : State) : Type 0 where

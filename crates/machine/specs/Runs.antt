@@ -26,32 +26,32 @@ run m s [] = ([], s)
 run m s (k ∷ ks) = let one = m s k in let rest = run m one.1 ks in (one.0 ∷ rest.0, rest.1)
 
 -- one of the operations is on the cell; one of them writes it
-abbrev pub HasTouched : ℕ → List Operation → Type 0
-HasTouched x [] = ⊥
-HasTouched x (reads y v ∷ ops) = (y ≡ x) ⊎ HasTouched x ops
-HasTouched x (writes y v ∷ ops) = (y ≡ x) ⊎ HasTouched x ops
+abbrev pub HasTouchedCell : ℕ → List Operation → Type 0
+HasTouchedCell x [] = ⊥
+HasTouchedCell x (reads y v ∷ ops) = (y ≡ x) ⊎ HasTouchedCell x ops
+HasTouchedCell x (writes y v ∷ ops) = (y ≡ x) ⊎ HasTouchedCell x ops
 
-abbrev pub HasWritten : ℕ → List Operation → Type 0
-HasWritten x [] = ⊥
-HasWritten x (reads y v ∷ ops) = HasWritten x ops
-HasWritten x (writes y v ∷ ops) = (y ≡ x) ⊎ HasWritten x ops
+abbrev pub HasWrittenCell : ℕ → List Operation → Type 0
+HasWrittenCell x [] = ⊥
+HasWrittenCell x (reads y v ∷ ops) = HasWrittenCell x ops
+HasWrittenCell x (writes y v ∷ ops) = (y ≡ x) ⊎ HasWrittenCell x ops
 
 -- ---- serial commits
 
 -- What each read of a transaction shows that is run alone from the cells.
 pub record ReadsAlone (ops : List Operation) (cells : List ℕ) : Type 0 where
   -- with no own write of the cell before it: what the cell had at the start
-  pub from_start : (front back : List Operation) (x v : ℕ) → ops ≡ front ++ (reads x v ∷ back) → (HasWritten x front → ⊥) → v ≡ slice_index cells x
+  pub from_start : (front back : List Operation) (x v : ℕ) → ops ≡ front ++ (reads x v ∷ back) → (HasWrittenCell x front → ⊥) → v ≡ slice_index cells x
   -- else the last own write of the cell before it
-  pub from_own : (front middle back : List Operation) (x v u : ℕ) → ops ≡ front ++ (writes x u ∷ (middle ++ (reads x v ∷ back))) → (HasWritten x middle → ⊥) → v ≡ u
+  pub from_own : (front middle back : List Operation) (x v u : ℕ) → ops ≡ front ++ (writes x u ∷ (middle ++ (reads x v ∷ back))) → (HasWrittenCell x middle → ⊥) → v ≡ u
 
 -- What the cells are after it.
 pub record Leaves (ops : List Operation) (cells after : List ℕ) : Type 0 where
   pub as_long : length after ≡ length cells
   -- a cell that it did not write is as it was
-  pub unwritten : (x : ℕ) → (HasWritten x ops → ⊥) → slice_index after x ≡ slice_index cells x
+  pub unwritten : (x : ℕ) → (HasWrittenCell x ops → ⊥) → slice_index after x ≡ slice_index cells x
   -- any other has its last write of it
-  pub last_write : (front back : List Operation) (x u : ℕ) → ops ≡ front ++ (writes x u ∷ back) → (HasWritten x back → ⊥) → slice_index after x ≡ u
+  pub last_write : (front back : List Operation) (x u : ℕ) → ops ≡ front ++ (writes x u ∷ back) → (HasWrittenCell x back → ⊥) → slice_index after x ≡ u
 
 -- The transactions are run alone, one after another, from the first cells; each reads as it would alone, and they leave the last cells.
 abbrev pub Serially : List ℕ → List (List Operation) → List ℕ → Type 0
@@ -127,10 +127,10 @@ AsksToWrite (cancel_by d) c x = ⊥
 
 -- By the granted operations that the log tells of, with the request of the call counted.
 abbrev pub TouchedBy : Account → Call → ℕ → ℕ → Type 0
-TouchedBy a k c x = HasTouched x (operations_of a c) ⊎ AsksToTouch k c x
+TouchedBy a k c x = HasTouchedCell x (operations_of a c) ⊎ AsksToTouch k c x
 
 abbrev pub WrittenBy : Account → Call → ℕ → ℕ → Type 0
-WrittenBy a k c x = HasWritten x (operations_of a c) ⊎ AsksToWrite k c x
+WrittenBy a k c x = HasWrittenCell x (operations_of a c) ⊎ AsksToWrite k c x
 
 abbrev pub IsOpen : Standing → Type 0
 IsOpen idle = ⊥
@@ -146,9 +146,9 @@ IsUnmarked (marked w x) = ⊥
 -- has not written it, or a close, by one that has touched it.
 abbrev pub JudgedOn : Account → Call → ℕ → Type 0
 JudgedOn a (open_by d) x = ⊥
-JudgedOn a (read_by d y) x = (y ≡ x) × (HasTouched x (operations_of a d) → ⊥)
-JudgedOn a (write_by d y v) x = (y ≡ x) × (HasWritten x (operations_of a d) → ⊥)
-JudgedOn a (close_by d) x = HasTouched x (operations_of a d)
+JudgedOn a (read_by d y) x = (y ≡ x) × (HasTouchedCell x (operations_of a d) → ⊥)
+JudgedOn a (write_by d y v) x = (y ≡ x) × (HasWrittenCell x (operations_of a d) → ⊥)
+JudgedOn a (close_by d) x = HasTouchedCell x (operations_of a d)
 JudgedOn a (cancel_by d) x = ⊥
 
 -- What the log tells of the client d: the entry that its granted operations leave for the cell x, and its opening number.

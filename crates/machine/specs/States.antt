@@ -126,7 +126,7 @@ WithinHeld n None = Unit {0}
 WithinHeld n (Some t) = Within n t.operations
 
 -- The log tells of operations on the first n cells only.
-pub record AllWithin (n : ℕ) (a : Account) : Type 0 where
+pub record AccountWithin (n : ℕ) (a : Account) : Type 0 where
   pub of_held : AllByRecursion (WithinHeld n) a.held
   pub of_ended : AllByRecursion (λ (e : EndedTransaction). Within n e.transaction.operations) a.ended
 

@@ -58,8 +58,8 @@ abbrev pub newcomer_yields : Contact → Verdict
 newcomer_yields k = elim k.event [ Read ↦ cond k.other.written CallerYields BothStand | Write ↦ cond (touched k.other) CallerYields BothStand | Close ↦ cond (invalidates k) CallerYields BothStand ]
 
 -- The smaller opening number stands; the caller yields if they are equal.
-abbrev pub elder_stands_lem : ℕ → ℕ → Verdict
-elder_stands_lem caller other = cond (nat_lt caller other) OtherYields CallerYields
+abbrev pub elder_verdict : ℕ → ℕ → Verdict
+elder_verdict caller other = cond (nat_lt caller other) OtherYields CallerYields
 
 abbrev pub oldest_stands : Contact → Verdict
-oldest_stands k = elim k.event [ Read ↦ BothStand | Write ↦ BothStand | Close ↦ cond (invalidates k) (elder_stands_lem k.caller.number k.other.number) BothStand ]
+oldest_stands k = elim k.event [ Read ↦ BothStand | Write ↦ BothStand | Close ↦ cond (invalidates k) (elder_verdict k.caller.number k.other.number) BothStand ]

@@ -2,7 +2,7 @@
 #![tactic(auto)]
 
 ghost use Rattle.std.specs.Prelude.{◌≡◌};
-ghost use Rattle.rule.specs.Verdicts.{touched, invalidates, Enough, OnlyForCause, Lawful, closer_wins, newcomer_yields, elder_stands_lem, oldest_stands};
+ghost use Rattle.rule.specs.Verdicts.{touched, invalidates, Enough, OnlyForCause, Lawful, closer_wins, newcomer_yields, elder_verdict, oldest_stands};
 ghost use Rattle.rule.specs.declared.Contact.{Contact};
 ghost use Rattle.rule.specs.declared.Verdict.{Verdict};
 ghost use Rattle.std.proofs.Common.{rules};
@@ -154,7 +154,7 @@ impl Rule for OldestStands {
 
 // The smaller opening number stands; the caller yields if they are equal.
 fn elder_stands(caller: u32, other: u32) -> Verdict
-    ensures { result ≡ elder_stands_lem caller other }
+    ensures { result ≡ elder_verdict caller other }
 {
     if caller < other {
         Verdict::OtherYields
