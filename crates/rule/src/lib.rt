@@ -68,6 +68,7 @@ pub trait Rule {
     fn judge(&self, contact: Contact) -> Verdict
         ensures { result ≡ verdict self.now contact };
 
+    // The law of enough and the law of cause, which every rule proves. (A ghost member below the function is a law.)
     ghost enough: { (r : Self) → Enough (verdict r) };
 
     ghost cause: { (r : Self) → OnlyForCause (verdict r) };
