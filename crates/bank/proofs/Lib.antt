@@ -2,6 +2,5 @@ mod Held
 mod Holds
 mod Order
 pub mod Replies
-mod Rows
 pub mod Ways
 mod Windows

@@ -1,6 +1,5 @@
 -- What a bank's calls reply and leave, by its list of cells. Assumes nothing.
-use Rattle.std.specs.Prelude.{◌≡◌, ℕ, ◌<◌, ◌≤◌, cond, List, [], length, nat_lt, slice_index, slice_set}
-use Rattle.std.specs.List.{AllByRecursion}
+use Rattle.std.specs.Prelude.{◌≡◌, ℕ, ◌<◌, ◌≤◌, cond, List, All, [], length, nat_lt, slice_index, slice_set}
 use Rattle.refusal.specs.Labels.{Reply, granted, declined}
 
 -- What a cell can hold: a word of 16 bits.
@@ -8,7 +7,7 @@ abbrev pub FitsWord : ℕ → Type 0
 FitsWord n = n ≤ 65535
 
 abbrev pub FitWords : List ℕ → Type 0
-FitWords cells = AllByRecursion FitsWord cells
+FitWords cells = All FitsWord cells
 
 -- The reply to a read: the cell, or 6 where there is none of that number.
 abbrev pub reading : List ℕ → ℕ → Reply ℕ

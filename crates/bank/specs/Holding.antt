@@ -1,8 +1,8 @@
 -- Cells held back over a bank below. Assumes nothing.
-use Rattle.std.specs.Prelude.{◌≡◌, ℕ, suc, ◌<◌, ◌≤◌, min, Bool, cond, List, [], ◌∷◌, ◌++◌, length, take, Some, None, Option, ◌==◌, nat_lt, slice_set, refl}
-use Rattle.std.proofs.Common.{◌∙◌, length-set}
-use Rattle.std.specs.List.{FoldsTo, AllByRecursion}
-use Rattle.std.proofs.ByRecursion.{All-set}
+use Rattle.std.specs.Prelude.{◌≡◌, ℕ, suc, ◌<◌, ◌≤◌, Bool, cond, List, All, [], ◌∷◌, ◌++◌, length, Some, None, Option, ◌==◌, nat_lt, slice_set, codes, decimal, refl}
+use Rattle.std.proofs.Common.{◌∙◌, arith, length-set}
+use Rattle.std.specs.List.{FoldsTo}
+use Rattle.std.proofs.lemmas.List.Elements.{All-set}
 use Rattle.bank.specs.declared.hold_back.HeldCell.{HeldCell}
 use Rattle.bank.specs.declared.hold_back.HoldBack.{HoldBack}
 use Rattle.bank.specs.Cells.{FitsWord, FitWords, Star, MovedBy}
@@ -11,9 +11,13 @@ use Rattle.bank.specs.Cells.{FitsWord, FitWords, Star, MovedBy}
 abbrev pub held_cell : ℕ → ℕ → HeldCell
 held_cell cell value = record { cell = cell; value = value }
 
+-- How a held cell is written: 3=17 for the value 17 of cell 3.
+unfoldable pub held_text : HeldCell → List ℕ
+held_text h = decimal h.cell ++ (codes "=" ++ decimal h.value)
+
 -- The held cells, in the order in which they came.
 abbrev pub held_by : {B : Type 0} → HoldBack B → List HeldCell
-held_by h = take (min h.count 8) h.slots
+held_by h = h.held.items
 
 -- The cells with the held ones replaced, the oldest first.
 abbrev pub replaced : List HeldCell → List ℕ → List ℕ
@@ -68,9 +72,13 @@ abbrev pub Apart : List HeldCell → Type 0
 Apart [] = Unit {0}
 Apart (h ∷ hs) = (place_of hs h.cell ≡ None) × Apart hs
 
+-- The cell is one of n, and its value a word.
+abbrev pub FitsBelow : ℕ → HeldCell → Type 0
+FitsBelow n h = (h.cell < n) × FitsWord h.value
+
 -- What a sound hold-back holds over a bank of n cells: words for cells that are there, each of them once.
 pub record SoundHeld (n : ℕ) (hs : List HeldCell) : Type 0 where
-  pub fit : AllByRecursion (λ h. (h.cell < n) × FitsWord h.value) hs
+  pub fit : All (FitsBelow n) hs
   pub apart : Apart hs
 
 -- A hold-back is sound where the bank below is, and what it holds.
@@ -107,6 +115,6 @@ length-replaced (h ∷ hs) cells = length-replaced hs (slice_set cells h.cell h.
 pub replaced_few : (hs : List HeldCell) (cells : List ℕ) → length cells ≤ 4048 → length (replaced hs cells) ≤ 4048
 replaced_few hs cells few = rw (length-replaced hs cells) few
 
-pub replaced_words : (hs : List HeldCell) (cells : List ℕ) (n : ℕ) → FitWords cells → AllByRecursion (λ h. (h.cell < n) × FitsWord h.value) hs → FitWords (replaced hs cells)
+pub replaced_words : (hs : List HeldCell) (cells : List ℕ) (n : ℕ) → FitWords cells → All (FitsBelow n) hs → FitWords (replaced hs cells)
 replaced_words [] cells n w f = w
-replaced_words (h ∷ hs) cells n w f = replaced_words hs (slice_set cells h.cell h.value) n (All-set FitsWord cells h.cell h.value f.0.1 w) f.1
+replaced_words (h ∷ hs) cells n w f = replaced_words hs (slice_set cells h.cell h.value) n (All-set FitsWord cells h.cell h.value (f 0 h (omega arith)).1 w) (λ k d lt. f (suc k) d (omega arith))

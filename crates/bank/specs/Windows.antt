@@ -1,7 +1,7 @@
 -- The cells that a window shows. Assumes nothing.
 use Rattle.std.specs.Prelude.{◌≡◌, ℕ, ◌+◌, ◌≤◌, List, ◌∷◌, length, take, drop}
 use Rattle.std.proofs.Common.{arith, length-take}
-use Rattle.std.proofs.ByRecursion.{All-take, All-drop}
+use Rattle.std.proofs.lemmas.List.Elements.{All-take, All-drop}
 use Rattle.bank.specs.declared.window.Window.{Window}
 use Rattle.bank.specs.Cells.{FitsWord, FitWords, Star}
 

@@ -17,7 +17,7 @@ mod word_bank;
 pub use hold_back::{HeldCell, HoldBack, settle_upper};
 pub use span::Span;
 pub use window::Window;
-pub use word_bank::WordBank;
+pub use word_bank::{RowRefused, WordBank};
 
 // The most cells that a bank may have.
 pub const MOST: usize = 4048;
@@ -27,14 +27,8 @@ pub trait Bank {
     // The cells, numbered from 0.
     ghost cells: { Self → List ℕ };
 
-    // There are at most 4,048 of them.
-    ghost few: { (b : Self) → length (cells b) ≤ 4048 };
-
     // The memory below is as its format asks. Every call keeps it so.
     ghost sound: { Self → Type 0 };
-
-    // Each cell of a sound bank holds a word.
-    ghost fitting: { (b : Self) → sound b → FitWords (cells b) };
 
     // What of the memory below is not among the cells, stretch by stretch. No call moves it.
     ghost outside: { Self → List (List ℕ) };
@@ -48,7 +42,7 @@ pub trait Bank {
     // How a granted write of a cell and a value leaves the bank, layer by layer.
     ghost takes: { Self → ℕ → ℕ → Self → Type 0 };
 
-    // The number of cells.
+    // The number of cells. (`kept` stands on each call, since it ties what is after a call to what was before it, as no invariant can.)
     fn size(&mut self) -> usize
         ensures value { result ≡ length (cells self.old) }
         ensures same { cells self.new ≡ cells self.old }
@@ -68,4 +62,10 @@ pub trait Bank {
         ensures after { cells self.new ≡ written (cells self.old) cell value }
         ensures kept { Preserved sound outside fixed self.old self.new }
         ensures moved { MovedBy cells idles takes self.old cell value self.new };
+
+    // A bank has at most 4,048 cells.
+    ghost few: { (b : Self) → length (cells b) ≤ 4048 };
+
+    // Each cell of a sound bank holds a word.
+    ghost fitting: { (b : Self) → sound b → FitWords (cells b) };
 }

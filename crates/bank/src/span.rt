@@ -24,4 +24,15 @@ impl Span {
             Err(Refusal::WindowBeyondLimit)
         }
     }
+
+    // The number below of a cell of the window.
+    pub(crate) fn place(&self, cell: usize) -> Result<usize, Refusal>
+        ensures { MatchResult result (λ i. (i ≡ self.now.first + cell) × (cell < self.now.length)) (λ e. (label_of e ≡ labelled 6 []) × (self.now.length ≤ cell)) }
+    {
+        if cell < self.length {
+            Ok(self.first + cell)
+        } else {
+            Err(Refusal::NoSuchCell)
+        }
+    }
 }

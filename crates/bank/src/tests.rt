@@ -17,11 +17,11 @@ fn rows_of_1_to_4048_words_are_admitted(rt: HostRuntime) {
 
 #[test]
 fn a_row_that_is_not_admitted_is_handed_back(rt: HostRuntime) -> Result<(), Fail> {
-    let mut row = [5; 4049];
-    match WordBank::over(&mut row) {
+    let mut words = [5; 4049];
+    match WordBank::over(&mut words) {
         Ok(_) => Err(Fail::new("4,049 words are admitted")),
-        Err((back, refusal)) => {
-            assert_eq!(rt; back.len(), 4049);
+        Err(RowRefused { row, refusal }) => {
+            assert_eq!(rt; row.len(), 4049);
             assert_eq!(rt; refusal, Refusal::LengthNotAdmitted);
             Ok(())
         }
@@ -74,8 +74,8 @@ fn a_window_ends_with_the_bank_below(rt: HostRuntime) -> Result<(), Fail> {
 fn a_ninth_cell_sends_eight_down(rt: HostRuntime) -> Result<(), Fail> {
     let mut row = [0; 16];
     let mut bank = HoldBack::new(HoldBack::new(WordBank::new(&mut row)));
-    for cell in 0..8 {
-        bank.write(15 - cell, 1)?;
+    for cell in (8..16).rev() {
+        bank.write(cell, 1)?;
     }
     bank.write(12, 2)?;
     assert_eq!(rt; bank.held().len(), 8);
@@ -86,5 +86,22 @@ fn a_ninth_cell_sends_eight_down(rt: HostRuntime) -> Result<(), Fail> {
     assert_eq!(rt; bank.held().len(), 0);
     let lower = bank.finish();
     assert_eq!(rt; lower.held(), [HeldCell { cell: 0, value: 3 }].as_slice());
+    Ok(())
+}
+
+fn cells_over(row: &mut [u16]) -> Result<usize, Refusal> {
+    Ok(WordBank::over(row)?.size())
+}
+
+#[test]
+fn a_refused_row_passes_its_refusal_on(rt: HostRuntime) {
+    let mut words = [5; 4049];
+    assert_eq!(rt; cells_over(&mut words), Err(Refusal::LengthNotAdmitted));
+}
+
+#[test]
+fn a_held_cell_shows_its_number_and_value(rt: HostRuntime) -> Result<(), Fail> {
+    let shown = HeldCell { cell: 3, value: 17 }.to_string(rt.alloc())?;
+    assert_eq!(rt; shown.as_str(), "3=17");
     Ok(())
 }

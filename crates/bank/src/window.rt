@@ -29,40 +29,34 @@ impl<B: Bank> Window<B> {
 }
 
 impl<B: Bank> Bank for Window<B> {
-    ghost cells = { λ w. windowed w.span.first w.span.length (B.Bank.cells w.below) };
+    ghost cells = { λ w. windowed w.span.first w.span.length (B.cells w.below) };
 
-    ghost few = { λ w. windowed_few w.span.first w.span.length (B.Bank.cells w.below) w.span.fits };
+    ghost few = { λ w. windowed_few w.span.first w.span.length (B.cells w.below) w.span.fits };
 
-    ghost sound = { λ w. B.Bank.sound w.below };
+    ghost sound = { λ w. B.sound w.below };
 
-    ghost fitting = { λ w s. windowed_words w.span.first w.span.length (B.Bank.cells w.below) (B.Bank.fitting w.below s) };
+    ghost fitting = { λ w s. windowed_words w.span.first w.span.length (B.cells w.below) (B.fitting w.below s) };
 
-    ghost outside = { λ w. beside w.span.first w.span.length (B.Bank.cells w.below) (B.Bank.outside w.below) };
+    ghost outside = { λ w. beside w.span.first w.span.length (B.cells w.below) (B.outside w.below) };
 
-    ghost fixed = { λ w. w.span.first ∷ w.span.length ∷ B.Bank.fixed w.below };
+    ghost fixed = { λ w. w.span.first ∷ w.span.length ∷ B.fixed w.below };
 
-    ghost idles = { WindowIdles B.Bank.idles };
+    ghost idles = { WindowIdles B.idles };
 
-    ghost takes = { WindowTakes B.Bank.takes };
+    ghost takes = { WindowTakes B.takes };
 
     fn size(&mut self) -> usize {
-        let n = self.below.size();
-        self.span.length.min(n.saturating_sub(self.span.first))
+        self.below
+            .size()
+            .saturating_sub(self.span.first)
+            .min(self.span.length)
     }
 
     fn read(&mut self, cell: usize) -> Result<u16, Refusal> {
-        if cell < self.span.length {
-            self.below.read(self.span.first + cell)
-        } else {
-            Err(Refusal::NoSuchCell)
-        }
+        self.below.read(self.span.place(cell)?)
     }
 
     fn write(&mut self, cell: usize, value: u16) -> Result<(), Refusal> {
-        if cell < self.span.length {
-            self.below.write(self.span.first + cell, value)
-        } else {
-            Err(Refusal::NoSuchCell)
-        }
+        self.below.write(self.span.place(cell)?, value)
     }
 }

@@ -12,11 +12,19 @@ pub struct WordBank<'a> {
     row: &'a mut [u16],
 }
 
-// That every element of a `&[u16]` is a word is known once one of them is read.
-fn first_word(row: &[u16]) -> u16
-    ensures { FitWords row.now }
-{
-    if row.len() > 0 { row[0] } else { 0 }
+// A row that no bank can be over, handed back, and why.
+#[derive(Drop)]
+pub struct RowRefused<'a> {
+    pub row: &'a mut [u16],
+    pub refusal: Refusal,
+}
+
+impl<'a> From<RowRefused<'a>> for Refusal {
+    fn from(refused: RowRefused<'a>) -> Refusal
+        ensures { result ≡ refused.entry.refusal }
+    {
+        refused.refusal
+    }
 }
 
 impl<'a> WordBank<'a> {
@@ -24,10 +32,11 @@ impl<'a> WordBank<'a> {
     pub fn admits(row: &[u16]) -> Result<(), Refusal>
         ensures { reply_of result ≡ admitting (length row.now) }
     {
-        if row.len() == 0 || row.len() > MOST {
-            return Err(Refusal::LengthNotAdmitted);
+        if row.is_empty() || row.len() > MOST {
+            Err(Refusal::LengthNotAdmitted)
+        } else {
+            Ok(())
         }
-        Ok(())
     }
 
     // The bank over a row that `admits` lets pass; over any other it has no cells and is not sound.
@@ -36,21 +45,33 @@ impl<'a> WordBank<'a> {
         ensures place { result.row.ghost_name ≡ row.entry.ghost_name }
         ensures sound { admitted (length row.old) ≡ true → SoundRow result.row.now }
     {
-        let _ = first_word(row);
+        // That every element is a word is known once one of them is read.
+        let _ = row.first();
         WordBank { row }
     }
 
-    // `admits` and `new` in one. A row that is not admitted is handed back with the refusal.
-    pub fn over(row: &'a mut [u16]) -> Result<WordBank<'a>, (&'a mut [u16], Refusal)>
-        ensures { MatchResult result (λ b. (b.row.now ≡ row.old) × (b.row.ghost_name ≡ row.entry.ghost_name) × SoundRow b.row.now) (λ e. (label_of e.1 ≡ labelled 8 []) × (admitted (length row.old) ≡ false) × (e.0.now ≡ row.old) × (e.0.ghost_name ≡ row.entry.ghost_name)) }
+    // `admits` and `new` in one. A row that is not admitted is handed back with the refusal. (Its name says at a call what is made, as `try_from` would not.)
+    pub fn over(row: &'a mut [u16]) -> Result<WordBank<'a>, RowRefused<'a>>
+        ensures { MatchResult result (λ b. (b.row.now ≡ row.old) × (b.row.ghost_name ≡ row.entry.ghost_name) × SoundRow b.row.now) (λ e. (label_of e.refusal ≡ labelled 8 []) × (admitted (length row.old) ≡ false) × (e.row.now ≡ row.old) × (e.row.ghost_name ≡ row.entry.ghost_name)) }
     {
         match WordBank::admits(row) {
             Ok(()) => Ok(WordBank::new(row)),
-            Err(refusal) => Err((row, refusal)),
+            Err(refusal) => Err(RowRefused { row, refusal }),
         }
     }
 
-    // Hands the row back.
+    // The words that are cells: all of an admitted row, none of a longer one.
+    fn words(&self) -> &[u16]
+        ensures { result.now ≡ row_cells self.now.row.now }
+    {
+        if self.row.len() <= MOST {
+            &*self.row
+        } else {
+            &[]
+        }
+    }
+
+    // Hands the row back. (`place` says which memory it is, here and in `new`; no type can.)
     pub fn into_row(self) -> &'a mut [u16]
         ensures row { result.now ≡ self.entry.row.now }
         ensures place { result.ghost_name ≡ self.entry.row.ghost_name }
@@ -78,20 +99,15 @@ impl<'a> Bank for WordBank<'a> {
     ghost takes = { λ b i v c. (c.row.now ≡ slice_set b.row.now i v) × (c.row.ghost_name ≡ b.row.ghost_name) };
 
     fn size(&mut self) -> usize {
-        let n = self.row.len();
-        if n <= MOST { n } else { 0 }
+        self.words().len()
     }
 
     fn read(&mut self, cell: usize) -> Result<u16, Refusal> {
-        if cell < self.row.len() && self.row.len() <= MOST {
-            Ok(self.row[cell])
-        } else {
-            Err(Refusal::NoSuchCell)
-        }
+        self.words().get(cell).copied().ok_or(Refusal::NoSuchCell)
     }
 
     fn write(&mut self, cell: usize, value: u16) -> Result<(), Refusal> {
-        if cell < self.row.len() && self.row.len() <= MOST {
+        if cell < self.words().len() {
             self.row[cell] = value;
             Ok(())
         } else {

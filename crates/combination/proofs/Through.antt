@@ -1,13 +1,12 @@
 -- A window over a hold-back over a window: the cells below after a pressing from above. Assumes nothing.
-use Rattle.std.proofs.Common.{◌≡◌, ℕ, ◌+◌, ◌≤◌, true, cond, List, [], ◌∷◌, length, take, drop, sym, ap, ◌∙◌, arith, length-drop, length-take}
-use Rattle.std.proofs.lemmas.Bool.{leb-true}
+use Rattle.std.proofs.Common.{◌≡◌, ℕ, ◌+◌, cond, List, [], ◌∷◌, take, drop, sym, ap, ◌∙◌}
 use Rattle.bank.specs.declared.HoldBack.{HoldBack}
-use Rattle.bank.specs.declared.Span.{Span}
 use Rattle.bank.specs.declared.Window.{Window}
 use Rattle.bank.specs.Holding.{held_by, replaced}
 use Rattle.bank.specs.Windows.{windowed, beside}
+use Rattle.combination.specs.declared.windows.Windows.{Windows}
 use Rattle.combination.specs.Pressing.{overwritten, enough, pressed, seen_through}
-use Rattle.combination.proofs.Laying.{pressed_through, laid_pressed, pressed_laid}
+use Rattle.combination.proofs.Laying.{pressed_through}
 
 module _ {B : Type 0} (cells : B → List ℕ) (outside : B → List (List ℕ)) (fixed : B → List ℕ) where
   abbrev pub low : Window B → List ℕ
@@ -31,20 +30,20 @@ module _ {B : Type 0} (cells : B → List ℕ) (outside : B → List (List ℕ))
   abbrev pub high_fixed : Window (HoldBack (Window B)) → List ℕ
   high_fixed t = t.span.first ∷ t.span.length ∷ low_fixed t.below.below
 
-  module _ (bank : B) (inner outer : Span) (t : Window (HoldBack (Window B))) (bank_is : t.below.below.below ≡ bank) (inner_is : t.below.below.span ≡ inner) (held_none : held_by t.below ≡ []) (outer_is : t.span ≡ outer) where
-    pub mid_is : mid t.below ≡ windowed inner.first inner.length (cells bank)
-    mid_is = ap (λ hs. replaced hs (low t.below.below)) held_none ∙ ap (λ s. windowed s.first s.length (cells t.below.below.below)) inner_is ∙ ap (λ b. windowed inner.first inner.length (cells b)) bank_is
+  module _ (bank : B) (both : Windows) (t : Window (HoldBack (Window B))) (bank_is : t.below.below.below ≡ bank) (inner_is : t.below.below.span ≡ both.inner) (held_none : held_by t.below ≡ []) (outer_is : t.span ≡ both.outer) where
+    pub mid_is : mid t.below ≡ windowed both.inner.first both.inner.length (cells bank)
+    mid_is = ap (λ hs. replaced hs (low t.below.below)) held_none ∙ ap (λ s. windowed s.first s.length (cells t.below.below.below)) inner_is ∙ ap (λ b. windowed both.inner.first both.inner.length (cells b)) bank_is
 
-    pub high_is : high t ≡ seen_through inner outer (cells bank)
-    high_is = ap (windowed t.span.first t.span.length) mid_is ∙ ap (λ s. windowed s.first s.length (windowed inner.first inner.length (cells bank))) outer_is
+    pub high_is : high t ≡ seen_through both (cells bank)
+    high_is = ap (windowed t.span.first t.span.length) mid_is ∙ ap (λ s. windowed s.first s.length (windowed both.inner.first both.inner.length (cells bank))) outer_is
 
-    pub through : (values : List ℕ) (t' : Window (HoldBack (Window B))) (w : Window B) → high t' ≡ pressed values (high t) → high_outside t' ≡ high_outside t → high_fixed t' ≡ high_fixed t → low w ≡ mid t'.below → low_outside w ≡ low_outside t'.below.below → low_fixed w ≡ low_fixed t'.below.below → cells w.below ≡ cond (enough values (seen_through inner outer (cells bank))) (overwritten (inner.first + outer.first) values (cells bank)) (cells bank)
+    pub through : (values : List ℕ) (t' : Window (HoldBack (Window B))) (w : Window B) → high t' ≡ pressed values (high t) → high_outside t' ≡ high_outside t → high_fixed t' ≡ high_fixed t → low w ≡ mid t'.below → low_outside w ≡ low_outside t'.below.below → low_fixed w ≡ low_fixed t'.below.below → cells w.below ≡ cond (enough values (seen_through both (cells bank))) (overwritten (both.inner.first + both.outer.first) values (cells bank)) (cells bank)
     through values t' w p unmoved unaltered settled w_unmoved w_unaltered =
-        let f1 = inner.first in
-        let n1 = inner.length in
-        let f2 = outer.first in
-        let n2 = outer.length in
-        let S = seen_through inner outer (cells bank) in
+        let f1 = both.inner.first in
+        let n1 = both.inner.length in
+        let f2 = both.outer.first in
+        let n2 = both.outer.length in
+        let S = seen_through both (cells bank) in
         let i1 = ap (λ s. s.first) inner_is in
         let i2 = ap (λ s. s.length) inner_is in
         let o1 = ap (λ s. s.first) outer_is in
@@ -60,12 +59,7 @@ module _ {B : Type 0} (cells : B → List ℕ) (outside : B → List (List ℕ))
         let behind2 : drop (f2 + n2) (mid t'.below) ≡ drop (f2 + n2) (windowed f1 n1 (cells bank)) = cc mid_is in
         let shown : high t' ≡ windowed f2 n2 (mid t'.below) = ap (λ k. windowed k t'.span.length (mid t'.below)) t1 ∙ ap (λ k. windowed f2 k (mid t'.below)) t2 in
         let on_top : windowed f2 n2 (mid t'.below) ≡ pressed values S = sym shown ∙ p ∙ ap (pressed values) high_is in
-        let fits : enough values S ≡ true → length values ≤ length S = leb-true (length values) (length S) in
-        let shows = length-take n2 (drop f2 (windowed f1 n1 (cells bank))) in
-        let leaves = length-drop f2 (windowed f1 n1 (cells bank)) in
-        let shows_below = length-take n1 (drop f1 (cells bank)) in
-        let leaves_below = length-drop f1 (cells bank) in
-        pressed_laid (enough values S) (f1 + f2) values (cells bank) (cells w.below) (λ is i lt. let h = fits is in omega arith) (pressed_through f1 n1 f2 n2 (cells bank) (mid t'.below) (cells w.below) (enough values S) values middle front1 behind1 front2 behind2 fits (laid_pressed values S (windowed f2 n2 (mid t'.below)) on_top))
+        pressed_through f1 n1 f2 n2 (cells bank) (mid t'.below) (cells w.below) middle front1 behind1 front2 behind2 values on_top
 
   module _ (bank : B) (t t' : Window (HoldBack (Window B))) (w : Window B) (bank_is : t.below.below.below ≡ bank) where
     pub outside_below : high_outside t' ≡ high_outside t → low_outside w ≡ low_outside t'.below.below → outside w.below ≡ outside bank

@@ -2,11 +2,11 @@
 use Rattle.std.specs.Prelude.{◌≡◌, ℕ, ◌+◌, Bool, true, false, cond, ◌&&◌, List, [], ◌∷◌, ◌++◌, length, take, drop, nat_le}
 use Rattle.refusal.specs.Labels.{Reply, granted, declined}
 use Rattle.bank.specs.declared.HeldCell.{HeldCell}
-use Rattle.bank.specs.declared.Span.{Span}
 use Rattle.bank.specs.Cells.{Star}
 use Rattle.bank.specs.Holding.{held_cell, Sent}
 use Rattle.bank.specs.Rows.{admitted}
 use Rattle.bank.specs.Windows.{windowed}
+use Rattle.combination.specs.declared.windows.Windows.{Windows}
 
 -- The cells with the values in the place of those from the given one on.
 abbrev pub overwritten : ℕ → List ℕ → List ℕ → List ℕ
@@ -33,16 +33,16 @@ pub record PressWay {B : Type 0} (idles : B → B → Type 0) (moves : B → ℕ
   pub writes : wrote ≡ true → (m : B) × Star idles b m × Sent moves m (writes_from 0 values) b'
   pub asks : wrote ≡ false → Star idles b b'
 
--- The cells that a window over a window shows.
-abbrev pub seen_through : Span → Span → List ℕ → List ℕ
-seen_through inner outer cells = windowed outer.first outer.length (windowed inner.first inner.length cells)
+-- The cells that the outer window shows.
+abbrev pub seen_through : Windows → List ℕ → List ℕ
+seen_through w cells = windowed w.outer.first w.outer.length (windowed w.inner.first w.inner.length cells)
 
 -- The same on a row, which must be of an admitted length.
-abbrev pub row_enough : Span → Span → List ℕ → List ℕ → Bool
-row_enough inner outer values row = admitted (length row) && enough values (seen_through inner outer row)
+abbrev pub row_enough : Windows → List ℕ → List ℕ → Bool
+row_enough w values row = admitted (length row) && enough values (seen_through w row)
 
-abbrev pub row_pressing : Span → Span → List ℕ → List ℕ → Reply Unit
-row_pressing inner outer values row = cond (admitted (length row)) (pressing values (seen_through inner outer row)) (declined 8 [])
+abbrev pub row_pressing : Windows → List ℕ → List ℕ → Reply Unit
+row_pressing w values row = cond (admitted (length row)) (pressing values (seen_through w row)) (declined 8 [])
 
-abbrev pub row_pressed : Span → Span → List ℕ → List ℕ → List ℕ
-row_pressed inner outer values row = cond (row_enough inner outer values row) (overwritten (inner.first + outer.first) values row) row
+abbrev pub row_pressed : Windows → List ℕ → List ℕ → List ℕ
+row_pressed w values row = cond (row_enough w values row) (overwritten (w.inner.first + w.outer.first) values row) row

@@ -7,8 +7,12 @@ ghost use Rattle.bank.specs.Cells.{Preserved, MovedBy};
 ghost use Rattle.bank.specs.Rows.{admitted};
 ghost use Rattle.combination.specs.Pressing.{overwritten, enough, pressing, pressed, PressWay, seen_through, row_pressing, row_pressed};
 
-use bank::{Bank, HoldBack, Span, Window, WordBank};
+use bank::{Bank, HoldBack, Window, WordBank};
 use refusal::Refusal;
+
+mod windows;
+
+pub use windows::Windows;
 
 // Writes the values to the first cells in order or, where there are too few cells, writes none.
 pub fn press<B: Bank>(bank: &mut B, values: &[u16]) -> Result<(), Refusal>
@@ -20,57 +24,54 @@ pub fn press<B: Bank>(bank: &mut B, values: &[u16]) -> Result<(), Refusal>
     if values.len() > bank.size() {
         return Err(Refusal::NoSuchCell);
     }
-    for i in 0..values.len() {
-        bank.write(i, values[i])?;
+    for (cell, value) in values.iter().enumerate() {
+        bank.write(cell, *value)?;
     }
     Ok(())
 }
 
-// The same through a window over a hold-back over a window. The bank below is handed back with everything sent down.
-fn press_through<B: Bank>(
-    bank: B,
-    inner: Span,
-    outer: Span,
-    values: &[u16],
-) -> (B, Result<(), Refusal>)
-    ensures value { reply_of result.1 ≡ pressing values.now (seen_through inner outer (B.cells bank)) }
-    ensures after { B.cells result.0 ≡ (if enough values.now (seen_through inner outer (B.cells bank)) then overwritten (inner.first + outer.first) values.now (B.cells bank) else B.cells bank) }
+// The same through a window over a hold-back over a window. The bank below is handed back with everything sent down, whatever
+// the reply, and so stands beside it.
+fn press_through<B: Bank>(bank: B, windows: Windows, values: &[u16]) -> (B, Result<(), Refusal>)
+    ensures value { reply_of result.1 ≡ pressing values.now (seen_through windows (B.cells bank)) }
+    ensures after { B.cells result.0 ≡ (if enough values.now (seen_through windows (B.cells bank)) then overwritten (windows.inner.first + windows.outer.first) values.now (B.cells bank) else B.cells bank) }
     ensures kept { Preserved B.sound B.outside B.fixed bank result.0 }
 {
+    let Windows { inner, outer } = windows;
     let mut top = Window::new(HoldBack::new(Window::new(bank, inner)), outer);
     let reply = press(&mut top, values);
     (top.finish().finish().finish(), reply)
 }
 
-// The same on a lent row, which is handed back.
+// The same on a lent row, which is handed back in the same way.
 fn press_and_return<'a>(
     row: &'a mut [u16],
-    inner: Span,
-    outer: Span,
+    windows: Windows,
     values: &[u16],
 ) -> (&'a mut [u16], Result<(), Refusal>)
     requires { admitted (length row.old) ≡ true }
-    ensures value { reply_of result.1 ≡ pressing values.now (seen_through inner outer row.old) }
-    ensures after { result.0.now ≡ (if enough values.now (seen_through inner outer row.old) then overwritten (inner.first + outer.first) values.now row.old else row.old) }
+    ensures value { reply_of result.1 ≡ pressing values.now (seen_through windows row.old) }
+    ensures after { result.0.now ≡ (if enough values.now (seen_through windows row.old) then overwritten (windows.inner.first + windows.outer.first) values.now row.old else row.old) }
     ensures place { result.0.ghost_name ≡ row.entry.ghost_name }
 {
-    let (bank, reply) = press_through(WordBank::new(row), inner, outer, values);
+    let (bank, reply) = press_through(WordBank::new(row), windows, values);
     (bank.into_row(), reply)
 }
 
 // Presses on a row through a window over a hold-back over a window, a pile of three layers, after which the row is known.
-pub fn press_row(row: &mut [u16], inner: Span, outer: Span, values: &[u16]) -> Result<(), Refusal>
-    ensures value { reply_of result ≡ row_pressing inner outer values.now row.old }
-    ensures after { row.new ≡ row_pressed inner outer values.now row.old }
+pub fn press_row(row: &mut [u16], windows: Windows, values: &[u16]) -> Result<(), Refusal>
+    ensures value { reply_of result ≡ row_pressing windows values.now row.old }
+    ensures after { row.new ≡ row_pressed windows values.now row.old }
 {
     WordBank::admits(row)?;
-    let (_, reply) = press_and_return(row, inner, outer, values);
+    let (_, reply) = press_and_return(row, windows, values);
     reply
 }
 
 #[cfg(test)]
 mod tests {
     use super::*;
+    use bank::Span;
     use std::test::Fail;
 
     #[test]
@@ -84,15 +85,17 @@ mod tests {
 
     #[test]
     fn a_row_is_pressed_where_the_windows_lie(rt: HostRuntime) -> Result<(), Fail> {
-        let inner = Span::new(2, 8)?;
-        let outer = Span::new(1, 4)?;
+        let windows = Windows {
+            inner: Span::new(2, 8)?,
+            outer: Span::new(1, 4)?,
+        };
         let mut row = [9; 9];
-        let reply = press_row(&mut row, inner, outer, &[1, 2, 3, 4, 5]);
+        let reply = press_row(&mut row, windows, &[1, 2, 3, 4, 5]);
         assert_eq!(rt; reply, Err(Refusal::NoSuchCell));
-        assert_eq!(rt; press_row(&mut row, inner, outer, &[1, 2, 3, 4]), Ok(()));
+        assert_eq!(rt; press_row(&mut row, windows, &[1, 2, 3, 4]), Ok(()));
         assert_eq!(rt; row, [9, 9, 9, 1, 2, 3, 4, 9, 9]);
         assert_eq!(rt;
-            press_row(&mut [], inner, outer, &[]),
+            press_row(&mut [], windows, &[]),
             Err(Refusal::LengthNotAdmitted)
         );
         Ok(())

@@ -1,76 +1,31 @@
 // What a line asks for, and how it is read.
-use bank::Span;
-use refusal::Refusal;
-use std::alloc::{AllocError, Global};
+use super::layers::{AskedSpan, Layers};
+use std::error::Error;
+use std::fmt;
+use std::str::{self, FromStr, Split};
 
 // The longest row that can be asked for.
 pub(crate) const LONGEST: u16 = 5000;
 
-// How many digits a field may have.
+// How many digits a number may have.
 const DIGITS: usize = 20;
 
-// Which layers lie over the word bank, named from the top down.
+// One line of the input.
+pub type Line = Result<Action, NotAnAction>;
+
+// What a line may ask for.
 #[derive(Clone, Copy)]
-pub enum Kind {
-    WordBank,
-    Window,
-    HoldBack,
-    WindowHoldBack,
-    HoldBackWindow,
-    HoldBackHoldBack,
-    WindowHoldBackWindow,
+pub enum Action {
+    Pile(Plan),
+    Ask(Ask),
+    TakeApart,
 }
 
-impl Kind {
-    fn numbered(number: usize) -> Option<Kind> {
-        match number {
-            0 => Some(Kind::WordBank),
-            1 => Some(Kind::Window),
-            2 => Some(Kind::HoldBack),
-            3 => Some(Kind::WindowHoldBack),
-            4 => Some(Kind::HoldBackWindow),
-            5 => Some(Kind::HoldBackHoldBack),
-            6 => Some(Kind::WindowHoldBackWindow),
-            _ => None,
-        }
-    }
-}
-
-// Where a window is asked to lie. It may reach beyond the limit.
-#[derive(Clone, Copy)]
-pub struct AskedSpan {
-    first: usize,
-    length: usize,
-}
-
-impl AskedSpan {
-    pub(crate) fn span(&self) -> Result<Span, Refusal> {
-        Span::new(self.first, self.length)
-    }
-}
-
-// A pile that is asked for. Its only window, or the lower of two, has the span `lower`.
+// A pile that is asked for.
 #[derive(Clone, Copy)]
 pub struct Plan {
-    pub kind: Kind,
     pub length: u16,
-    pub lower: AskedSpan,
-    pub upper: AskedSpan,
-}
-
-impl Plan {
-    fn new(kind: usize, length: usize, lower: AskedSpan, upper: AskedSpan) -> Option<Plan> {
-        let length = u16::try_from(length).ok()?;
-        if length > LONGEST {
-            return None;
-        }
-        Some(Plan {
-            kind: Kind::numbered(kind)?,
-            length,
-            lower,
-            upper,
-        })
-    }
+    pub layers: Layers<AskedSpan>,
 }
 
 // What is asked of the pile that stands.
@@ -83,81 +38,94 @@ pub enum Ask {
     Settle,
 }
 
-// One line of the input.
-#[derive(Clone, Copy)]
-pub enum Line {
-    Pile(Plan),
-    Asks(Ask),
-    TakeApart,
-    NotAnAction,
-}
+impl TryFrom<&[u8]> for Action {
+    type Error = NotAnAction;
 
-impl Line {
-    pub(crate) fn read(heap: Global, text: &[u8]) -> Result<Line, AllocError> {
-        let (letter, numbers) = match text {
-            [letter] => (*letter, Some(Vec::new(heap))),
-            [letter, b' ', fields @ ..] => (*letter, numbers(heap, fields)?),
-            _ => return Ok(Line::NotAnAction),
-        };
-        let line = match numbers {
-            Some(numbers) => action(letter, numbers.as_slice()),
-            None => None,
-        };
-        Ok(line.unwrap_or(Line::NotAnAction))
+    fn try_from(line: &[u8]) -> Result<Action, NotAnAction> {
+        str::from_utf8(line).map_err(|_| NotAnAction)?.parse()
     }
 }
 
-// The action that a letter and the numbers after it ask for.
-fn action(letter: u8, numbers: &[usize]) -> Option<Line> {
-    match (letter, numbers) {
-        (b'p', [kind, length, f1, n1, f2, n2]) => {
-            let lower = AskedSpan {
-                first: *f1,
-                length: *n1,
-            };
-            let upper = AskedSpan {
-                first: *f2,
-                length: *n2,
-            };
-            Some(Line::Pile(Plan::new(*kind, *length, lower, upper)?))
-        }
-        (b'n', []) => Some(Line::Asks(Ask::Size)),
-        (b'r', [cell]) => Some(Line::Asks(Ask::Read { cell: *cell })),
-        (b'w', [cell, value]) => {
-            let value = u16::try_from(*value).ok()?;
-            Some(Line::Asks(Ask::Write { cell: *cell, value }))
-        }
-        (b'h', []) => Some(Line::Asks(Ask::Held)),
-        (b's', []) => Some(Line::Asks(Ask::Settle)),
-        (b'e', []) => Some(Line::TakeApart),
-        _ => None,
-    }
-}
+impl FromStr for Action {
+    type Err = NotAnAction;
 
-// The numbers of the fields, or none where a field is no number.
-fn numbers(heap: Global, fields: &[u8]) -> Result<Option<Vec<usize>>, AllocError> {
-    let Ok(text) = std::str::from_utf8(fields) else {
-        return Ok(None);
-    };
-    let mut all = Vec::new(heap);
-    for field in text.split(' ') {
-        match number(field) {
-            Some(n) => all.push(n)?,
-            None => return Ok(None),
+    fn from_str(line: &str) -> Result<Action, NotAnAction> {
+        let mut fields = Fields(line.split(' '));
+        let action = fields.action().ok_or(NotAnAction)?;
+        match fields.0.next() {
+            None => Ok(action),
+            Some(_) => Err(NotAnAction),
         }
     }
-    Ok(Some(all))
 }
 
-// A number of 1 to 20 digits that fits 64 bits.
-fn number(field: &str) -> Option<usize> {
-    if field.len() > DIGITS {
-        return None;
+// What of a line is not yet read: the fields between single spaces.
+#[derive(Drop)]
+struct Fields<'a>(Split<'a, char>);
+
+impl Fields<'_> {
+    // A letter with the numbers that belong to it.
+    fn action(&mut self) -> Option<Action> {
+        match self.0.next()? {
+            "p" => Some(Action::Pile(self.plan()?)),
+            "n" => Some(Action::Ask(Ask::Size)),
+            "r" => Some(Action::Ask(Ask::Read {
+                cell: self.number()?,
+            })),
+            "w" => Some(Action::Ask(Ask::Write {
+                cell: self.number()?,
+                value: self.word()?,
+            })),
+            "h" => Some(Action::Ask(Ask::Held)),
+            "s" => Some(Action::Ask(Ask::Settle)),
+            "e" => Some(Action::TakeApart),
+            _ => None,
+        }
     }
-    for byte in field.bytes() {
-        if !byte.is_ascii_digit() {
+
+    // The numbers of a pile.
+    fn plan(&mut self) -> Option<Plan> {
+        let kind = self.number()?;
+        let length = self.word().filter(|&length| length <= LONGEST)?;
+        let lower = self.span()?;
+        let upper = self.span()?;
+        Some(Plan {
+            length,
+            layers: Layers::of_kind(kind, lower, upper)?,
+        })
+    }
+
+    // The first cell and the length of a window.
+    fn span(&mut self) -> Option<AskedSpan> {
+        Some(AskedSpan {
+            first: self.number()?,
+            length: self.number()?,
+        })
+    }
+
+    // A number of at most 65535.
+    fn word(&mut self) -> Option<u16> {
+        self.number()?.try_into().ok()
+    }
+
+    // A number of 1 to 20 digits that fits 64 bits.
+    fn number(&mut self) -> Option<usize> {
+        let field = self.0.next()?;
+        if field.len() > DIGITS || !field.bytes().all(|byte| byte.is_ascii_digit()) {
             return None;
         }
+        field.parse().ok()
     }
-    field.parse::<usize>().ok()
 }
+
+// That a line asks for nothing.
+#[derive(Clone, Copy, Debug)]
+pub struct NotAnAction;
+
+impl fmt::Display for NotAnAction {
+    fn fmt<W: fmt::Write>(&self, f: &mut fmt::Formatter<W>) -> fmt::Result {
+        write!(f, "not an action")
+    }
+}
+
+impl Error for NotAnAction {}

@@ -2,19 +2,21 @@
 // docs/PILES.md sets the lines out.
 #![tactic(auto)]
 
+mod layers;
 mod line;
 mod pile;
 mod reply;
 mod row;
 mod top;
 
-use bank::{Bank, WordBank};
-use line::{Line, Plan};
-use pile::{Shape, Turn};
+use bank::{Bank, Span, WordBank};
+use layers::Layers;
+use line::{Action, Line, Plan};
+use listing::Listing;
+use pile::Turn;
 use refusal::Refusal;
-use reply::{Answer, Listing};
-use std::io;
-use std::io::{BufRead, BufReader, Read};
+use std::io::{self, BufRead, BufReader, Read};
+use std::slice::Iter;
 
 // How many bytes of the input are read.
 const INPUT_LIMIT: u64 = 1_048_576;
@@ -22,54 +24,50 @@ const INPUT_LIMIT: u64 = 1_048_576;
 // Every line of the input.
 fn read_lines(rt: &HostRuntime) -> io::Result<Vec<Line>> {
     let heap = rt.alloc();
-    let mut lines = Vec::new(heap);
-    let input = BufReader::new(heap, rt.stdin().take(INPUT_LIMIT))?;
-    for text in input.split(heap, b'\n') {
-        lines.push(Line::read(heap, text?.as_slice())?)?;
-    }
-    Ok(lines)
+    BufReader::new(heap, rt.stdin().take(INPUT_LIMIT))?
+        .split(heap, b'\n')
+        .map(|text| -> io::Result<Line> { Ok(Action::try_from(text?.as_slice())) })
+        .try_collect(heap)
 }
 
-// The shape of the pile, or why it cannot stand on the row.
-fn admit(plan: &Plan, row: &[u16]) -> Result<Shape, Refusal> {
+// The layers of the pile, or why it cannot stand on the row.
+fn admit(plan: &Plan, row: &[u16]) -> Result<Layers<Span>, Refusal> {
     WordBank::admits(row)?;
-    Shape::of(plan)
+    plan.layers.try_into()
 }
 
-// Makes the pile, lets it answer its lines and takes it apart. Says whether it stood.
-fn stand(plan: &Plan, turn: Turn) -> io::Result<bool> {
-    let heap = turn.rt.alloc();
+// Makes the pile, lets it answer its lines and takes it apart, or says why it cannot stand.
+// Gives back the lines that are left.
+fn stand<'a>(rt: &'a HostRuntime, plan: &Plan, lines: &'a [Line]) -> io::Result<Iter<'a, Line>> {
+    let heap = rt.alloc();
     let made = row::fresh(heap, plan.length)?;
     let mut row = made.clone()?;
+    let mut turn = Turn {
+        rt,
+        lines: lines.iter(),
+    };
     match admit(plan, row.as_slice()) {
-        Ok(shape) => {
-            turn.rt.println(Answer::Pile)?;
-            turn.on(WordBank::new(row.as_mut_slice()), shape)?;
+        Ok(layers) => {
+            println!(rt; "pile")?;
+            turn.on(WordBank::new(row.as_mut_slice()), layers)?;
             let changed = row::changes(heap, made.as_slice(), row.as_slice())?;
-            turn.rt.println(Listing::new("row", changed.as_slice()))?;
-            Ok(true)
+            println!(rt; "{}", Listing::new("row", changed.as_slice()))?;
         }
-        Err(refusal) => {
-            turn.rt.println(Answer::Refused(refusal))?;
-            Ok(false)
-        }
+        Err(refusal) => println!(rt; "{refusal}")?,
     }
+    Ok(turn.lines)
 }
 
-// Answers every line. A pile answers the lines after its own, up to the one that ends it.
-fn answer<'a>(rt: &'a HostRuntime, all: &'a [Line]) -> io::Result<()> {
-    let mut stands = false;
-    for (i, line) in all.iter().enumerate() {
+// Answers the lines from one `p` up to the next.
+fn answer_part(rt: &HostRuntime, lines: &[Line]) -> io::Result<()> {
+    let left = match lines {
+        [Ok(Action::Pile(plan)), others @ ..] => stand(rt, plan, others)?,
+        _ => lines.iter(),
+    };
+    for line in left {
         match line {
-            Line::Pile(plan) => {
-                let lines = &all[i + 1..];
-                stands = stand(plan, Turn { rt, lines })?;
-            }
-            Line::TakeApart if stands => stands = false,
-            // The pile has answered it.
-            _ if stands => {}
-            Line::NotAnAction => rt.println(Answer::NotAnAction)?,
-            Line::Asks(_) | Line::TakeApart => rt.println(Answer::NoPile)?,
+            Ok(_) => println!(rt; "no pile")?,
+            Err(error) => println!(rt; "{error}")?,
         }
     }
     Ok(())
@@ -77,5 +75,8 @@ fn answer<'a>(rt: &'a HostRuntime, all: &'a [Line]) -> io::Result<()> {
 
 fn main(rt: HostRuntime) -> io::Result<()> {
     let lines = read_lines(&rt)?;
-    answer(&rt, lines.as_slice())
+    for part in lines.chunk_by(|_, next| !matches!(next, Ok(Action::Pile(_)))) {
+        answer_part(&rt, part)?;
+    }
+    Ok(())
 }

@@ -1,70 +1,46 @@
 // A pile: made layer by layer over a bank, asked what the lines ask, and taken apart.
-use super::line::{Ask, Kind, Line, Plan};
-use super::reply::{Answer, Listing};
+use super::layers::Layers;
+use super::line::{Action, Ask, Line};
+use super::reply::Answer;
 use super::top::Top;
 use bank::{Bank, HoldBack, Span, Window};
+use listing::Listing;
 use refusal::Refusal;
 use std::io;
+use std::slice::Iter;
 
-// The layers of a pile, with every window within its limit.
-#[derive(Clone, Copy)]
-pub enum Shape {
-    WordBank,
-    Window(Span),
-    HoldBack,
-    WindowHoldBack(Span),
-    HoldBackWindow(Span),
-    HoldBackHoldBack,
-    WindowHoldBackWindow { lower: Span, upper: Span },
-}
-
-impl Shape {
-    pub(crate) fn of(plan: &Plan) -> Result<Shape, Refusal> {
-        let shape = match plan.kind {
-            Kind::WordBank => Shape::WordBank,
-            Kind::Window => Shape::Window(plan.lower.span()?),
-            Kind::HoldBack => Shape::HoldBack,
-            Kind::WindowHoldBack => Shape::WindowHoldBack(plan.lower.span()?),
-            Kind::HoldBackWindow => Shape::HoldBackWindow(plan.lower.span()?),
-            Kind::HoldBackHoldBack => Shape::HoldBackHoldBack,
-            Kind::WindowHoldBackWindow => Shape::WindowHoldBackWindow {
-                lower: plan.lower.span()?,
-                upper: plan.upper.span()?,
-            },
-        };
-        Ok(shape)
-    }
-}
-
-// The lines that follow a pile's own, and where the replies go.
-#[derive(Clone, Copy)]
+// The lines that a pile may answer, and where the replies go.
+#[derive(Drop)]
 pub struct Turn<'a> {
     pub rt: &'a HostRuntime,
-    pub lines: &'a [Line],
+    pub lines: Iter<'a, Line>,
 }
 
 impl Turn<'_> {
     // Answers the lines up to the one that ends the pile.
-    fn act<B: Bank + Top>(&self, bank: &mut B) -> io::Result<()> {
-        for line in self.lines {
-            match *line {
-                Line::Asks(ask) => reply(self.rt, bank, ask)?,
-                Line::NotAnAction => self.rt.println(Answer::NotAnAction)?,
-                Line::Pile(_) | Line::TakeApart => return Ok(()),
+    fn act<B: Bank + Top>(&mut self, bank: &mut B) -> io::Result<()> {
+        for line in self.lines.by_ref() {
+            match line {
+                Ok(Action::Ask(ask)) => match answer(bank, *ask) {
+                    Ok(answer) => println!(self.rt; "{answer}")?,
+                    Err(refusal) => println!(self.rt; "{refusal}")?,
+                },
+                Ok(Action::Pile(_) | Action::TakeApart) => return Ok(()),
+                Err(error) => println!(self.rt; "{error}")?,
             }
         }
         Ok(())
     }
 
     // Answers through a window, and hands back the bank below.
-    fn on_window<B: Bank + Drop>(&self, below: B, span: Span) -> io::Result<B> {
+    fn on_window<B: Bank + Drop>(&mut self, below: B, span: Span) -> io::Result<B> {
         let mut top = Window::new(below, span);
         self.act(&mut top)?;
         Ok(top.finish())
     }
 
     // Answers through a hold-back, and hands back the bank below.
-    fn on_hold_back<B: Bank + Drop>(&self, below: B) -> io::Result<B> {
+    fn on_hold_back<B: Bank + Drop>(&mut self, below: B) -> io::Result<B> {
         let mut top = HoldBack::new(below);
         self.act(&mut top)?;
         self.send(top)
@@ -72,56 +48,56 @@ impl Turn<'_> {
 
     // Shows what the hold-back holds, sends it down and hands back the bank below.
     fn send<B: Bank + Drop>(&self, top: HoldBack<B>) -> io::Result<B> {
-        self.rt.println(Listing::new("sends", top.held()))?;
+        println!(self.rt; "{}", Listing::new("sends", top.held()))?;
         Ok(top.finish())
     }
 
-    // Lays the layers over the bank, answers through them, and hands the bank back.
-    pub(crate) fn on<B: Bank + Top + Drop>(&self, mut bank: B, shape: Shape) -> io::Result<B> {
-        match shape {
-            Shape::WordBank => {
+    // Lays the layers over the bank, answers through them, and hands the bank back. (Each kind of pile is a type of its own, so
+    // there is no list of steps to go through.)
+    pub(crate) fn on<B: Bank + Top + Drop>(
+        &mut self,
+        mut bank: B,
+        layers: Layers<Span>,
+    ) -> io::Result<B> {
+        match layers {
+            Layers::WordBank => {
                 self.act(&mut bank)?;
                 Ok(bank)
             }
-            Shape::Window(span) => self.on_window(bank, span),
-            Shape::HoldBack => self.on_hold_back(bank),
-            Shape::WindowHoldBack(span) => self.send(self.on_window(HoldBack::new(bank), span)?),
-            Shape::HoldBackWindow(span) => {
+            Layers::Window(span) => self.on_window(bank, span),
+            Layers::HoldBack => self.on_hold_back(bank),
+            Layers::WindowHoldBack(span) => {
+                let held = self.on_window(HoldBack::new(bank), span)?;
+                self.send(held)
+            }
+            Layers::HoldBackWindow(span) => {
                 Ok(self.on_hold_back(Window::new(bank, span))?.finish())
             }
-            Shape::HoldBackHoldBack => self.send(self.on_hold_back(HoldBack::new(bank))?),
-            Shape::WindowHoldBackWindow { lower, upper } => {
-                let held = HoldBack::new(Window::new(bank, lower));
-                Ok(self.send(self.on_window(held, upper)?)?.finish())
+            Layers::HoldBackHoldBack => {
+                let lower = self.on_hold_back(HoldBack::new(bank))?;
+                self.send(lower)
+            }
+            Layers::WindowHoldBackWindow { lower, upper } => {
+                let held = self.on_window(HoldBack::new(Window::new(bank, lower)), upper)?;
+                Ok(self.send(held)?.finish())
             }
         }
     }
 }
 
-// Answers one line by its reply.
-fn reply<B: Bank + Top>(rt: &HostRuntime, bank: &mut B, ask: Ask) -> io::Result<()> {
+// What the bank answers to one line.
+fn answer<B: Bank + Top>(bank: &mut B, ask: Ask) -> Result<Answer<'_>, Refusal> {
     match ask {
-        Ask::Held => rt.println(Listing::new("held", bank.held_on_top())),
+        Ask::Size => Ok(Answer::Size(bank.size())),
+        Ask::Read { cell } => Ok(Answer::Value(bank.read(cell)?)),
+        Ask::Write { cell, value } => {
+            bank.write(cell, value)?;
+            Ok(Answer::Written)
+        }
+        Ask::Held => Ok(Answer::Held(bank.held_on_top())),
         Ask::Settle => {
             bank.settle_top();
-            rt.println(Answer::Settled)
+            Ok(Answer::Settled)
         }
-        Ask::Size => rt.println(Answer::Size(bank.size())),
-        Ask::Read { cell } => rt.println(read(bank, cell)),
-        Ask::Write { cell, value } => rt.println(written(bank, cell, value)),
-    }
-}
-
-fn read<B: Bank>(bank: &mut B, cell: usize) -> Answer {
-    match bank.read(cell) {
-        Ok(value) => Answer::Value(value),
-        Err(refusal) => Answer::Refused(refusal),
-    }
-}
-
-fn written<B: Bank>(bank: &mut B, cell: usize, value: u16) -> Answer {
-    match bank.write(cell, value) {
-        Ok(()) => Answer::Written,
-        Err(refusal) => Answer::Refused(refusal),
     }
 }

@@ -3,13 +3,9 @@ use super::line::LONGEST;
 use bank::HeldCell;
 use std::alloc::{AllocError, Global};
 
-// A row as it is made for a pile.
+// A row as it is made for a pile. None of its words overflows, since no row is longer than LONGEST.
 pub(crate) fn fresh(heap: Global, length: u16) -> Result<Vec<u16>, AllocError> {
-    let mut row = Vec::new(heap);
-    for i in 0..length.min(LONGEST) {
-        row.push(i * 7 + 3)?;
-    }
-    Ok(row)
+    (0..length.min(LONGEST)).map(|i| i * 7 + 3).collect(heap)
 }
 
 // The words of a row that differ from what it was made with.
@@ -18,11 +14,10 @@ pub(crate) fn changes(
     made: &[u16],
     row: &[u16],
 ) -> Result<Vec<HeldCell>, AllocError> {
-    let mut changed = Vec::new(heap);
-    for (cell, (old, new)) in made.iter().zip(row.iter()).enumerate() {
-        if old != new {
-            changed.push(HeldCell { cell, value: *new })?;
-        }
-    }
-    Ok(changed)
+    made.iter()
+        .zip(row)
+        .enumerate()
+        .filter(|(_, (old, new))| old != new)
+        .map(|(cell, (_, new))| HeldCell { cell, value: *new })
+        .collect(heap)
 }

@@ -1,59 +1,61 @@
 // A general piston of forty cells, set through a pile of layers on a row of words and read back.
 #![tactic(auto)]
 
-use bank::{Bank, HeldCell, HoldBack, Span, Window, WordBank};
+use bank::{Bank, HoldBack, Span, Window, WordBank};
+use combination::Windows;
+use listing::Listing;
 use refusal::Refusal;
-use std::io;
+use std::{fmt, io};
 
 // Where the general pistons' forty cells lie on the row.
 const FIRST: usize = 4;
 
 const CELLS: usize = 40;
 
+// What a call grants, or why it is declined.
+#[derive(Clone, Copy)]
+struct Reply<T>(Result<T, Refusal>);
+
+impl<T: fmt::Display> fmt::Display for Reply<T> {
+    fn fmt<W: fmt::Write>(&self, f: &mut fmt::Formatter<W>) -> fmt::Result {
+        match &self.0 {
+            Ok(granted) => write!(f, "{granted}"),
+            Err(refusal) => write!(f, "{refusal}"),
+        }
+    }
+}
+
 // A combination that tells its cells apart: cell i has i in both bytes.
 fn numbered() -> [u16; CELLS] {
     let mut piston = [0; CELLS];
-    for i in 0..CELLS {
-        piston[i] = (i as u16) * 257;
+    for (i, cell) in (0..).zip(&mut piston) {
+        *cell = u16::from_le_bytes([i, i]);
     }
     piston
 }
 
 fn print_row(rt: &HostRuntime, row: &[u16]) -> io::Result<()> {
-    print!(rt; "row")?;
-    for word in row {
-        print!(rt; " {word}")?;
-    }
-    println!(rt; "")
+    println!(rt; "{}", Listing::new("row", row))
 }
 
-fn print_held(rt: &HostRuntime, held: &[HeldCell]) -> io::Result<()> {
-    print!(rt; "held")?;
-    for h in held {
-        let HeldCell { cell, value } = *h;
-        print!(rt; " {cell}={value}")?;
-    }
-    println!(rt; "")
+fn print_held<B: Bank>(rt: &HostRuntime, bank: &HoldBack<B>) -> io::Result<()> {
+    println!(rt; "{}", Listing::new("held", bank.held()))
 }
 
 // Writes the combination cell by cell.
 fn set<B: Bank>(rt: &HostRuntime, bank: &mut B, piston: &[u16]) -> io::Result<()> {
     for (cell, value) in piston.iter().enumerate() {
-        match bank.write(cell, *value) {
-            Ok(()) => println!(rt; "set {cell} to {value}: ok")?,
-            Err(refusal) => println!(rt; "set {cell} to {value}: {refusal}")?,
-        }
+        let reply = Reply(bank.write(cell, *value).map(|()| "ok"));
+        println!(rt; "set {cell} to {value}: {reply}")?;
     }
     Ok(())
 }
 
-// Reads so many cells, and the one after them.
+// Reads so many cells, and the one after them. (The numbers count: there is no list to go over.)
 fn read_back<B: Bank>(rt: &HostRuntime, bank: &mut B, cells: usize) -> io::Result<()> {
     for cell in 0..=cells {
-        match bank.read(cell) {
-            Ok(value) => println!(rt; "read {cell}: {value}")?,
-            Err(refusal) => println!(rt; "read {cell}: {refusal}")?,
-        }
+        let reply = Reply(bank.read(cell));
+        println!(rt; "read {cell}: {reply}")?;
     }
     Ok(())
 }
@@ -62,19 +64,25 @@ fn read_back<B: Bank>(rt: &HostRuntime, bank: &mut B, cells: usize) -> io::Resul
 fn play<B: Bank + Drop>(rt: &HostRuntime, bank: B, span: Span, piston: &[u16]) -> io::Result<B> {
     let mut top = HoldBack::new(Window::new(bank, span));
     set(rt, &mut top, piston)?;
-    print_held(rt, top.held())?;
+    print_held(rt, &top)?;
     top.settle();
     println!(rt; "settled")?;
-    print_held(rt, top.held())?;
+    print_held(rt, &top)?;
     read_back(rt, &mut top, piston.len())?;
     Ok(top.finish().finish())
 }
 
-fn print_press(rt: &HostRuntime, cells: usize, reply: Result<(), Refusal>) -> io::Result<()> {
-    match reply {
-        Ok(()) => println!(rt; "press {cells} cells: ok"),
-        Err(refusal) => println!(rt; "press {cells} cells: {refusal}"),
-    }
+// Presses the combination into the cells of the span, and shows the row.
+fn press(rt: &HostRuntime, row: &mut [u16], span: Span, values: &[u16]) -> anyhow::Result<()> {
+    let cells = values.len();
+    let windows = Windows {
+        inner: Span::new(0, 4048)?,
+        outer: span,
+    };
+    let reply = Reply(combination::press_row(row, windows, values).map(|()| "ok"));
+    println!(rt; "press {cells} cells: {reply}")?;
+    print_row(rt, row)?;
+    Ok(())
 }
 
 fn run(rt: &HostRuntime) -> anyhow::Result<()> {
@@ -85,22 +93,8 @@ fn run(rt: &HostRuntime) -> anyhow::Result<()> {
     play(rt, WordBank::new(&mut row), span, &numbered())?;
     print_row(rt, &row)?;
     // The general cancel, and one cell too many.
-    let whole = Span::new(0, 4048)?;
-    let cancel = [0; CELLS];
-    print_press(
-        rt,
-        CELLS,
-        combination::press_row(&mut row, whole, span, &cancel),
-    )?;
-    print_row(rt, &row)?;
-    let too_many = [2; CELLS + 1];
-    print_press(
-        rt,
-        CELLS + 1,
-        combination::press_row(&mut row, whole, span, &too_many),
-    )?;
-    print_row(rt, &row)?;
-    Ok(())
+    press(rt, &mut row, span, &[0; CELLS])?;
+    press(rt, &mut row, span, &[2; CELLS + 1])
 }
 
 fn main(rt: HostRuntime) -> anyhow::Result<()> {

@@ -26,6 +26,7 @@ pub enum Refusal {
 }
 
 impl Refusal {
+    // The number by which the rules know it. (A method and no discriminant, since some cases carry values.)
     pub fn number(&self) -> u8
         ensures { result ≡ (label_of self.now).number }
     {
@@ -50,6 +51,7 @@ impl Refusal {
 impl fmt::Display for Refusal {
     ghost output = { λ e. Some (text_of e) };
 
+    #[tactic(auto, unfolding(crate::specs::Labels::text_of, crate::specs::Labels::wording))]
     fn fmt<W: fmt::Write>(&self, f: &mut fmt::Formatter<W>) -> fmt::Result {
         let n = self.number();
         match *self {

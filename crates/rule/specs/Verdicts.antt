@@ -1,5 +1,5 @@
 -- What a rule is asked, the two laws that every rule keeps, and the verdicts of the three rules. Assumes nothing.
-use Rattle.std.specs.Prelude.{◌≡◌, ℕ, ◌<◌, Bool, true, cond, ◌&&◌, ◌||◌, ◌⊎◌, ◌≢◌, nat_lt}
+use Rattle.std.specs.Prelude.{◌≡◌, ℕ, ◌<◌, Bool, true, false, cond, ◌&&◌, ◌||◌, ◌⊎◌, ◌≢◌, nat_lt}
 use Rattle.rule.specs.declared.Contact.{Contact}
 use Rattle.rule.specs.declared.Side.{Side}
 use Rattle.rule.specs.declared.Event.{Event}
@@ -30,6 +30,10 @@ pub record Proper (k : Contact) : Type 0 where
 -- The caller has written the cell, and the other has read it.
 abbrev pub invalidates : Contact → Bool
 invalidates k = k.caller.written && k.other.read
+
+-- The caller closes, having written what the other has read.
+abbrev pub closes_over_a_reader : Contact → Bool
+closes_over_a_reader k = elim k.event [ Read ↦ false | Write ↦ false | Close ↦ invalidates k ]
 
 -- ---- the laws
 

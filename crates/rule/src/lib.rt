@@ -2,10 +2,12 @@
 #![tactic(auto)]
 
 ghost use Rattle.std.specs.Prelude.{◌≡◌};
-ghost use Rattle.rule.specs.Verdicts.{touched, invalidates, Enough, OnlyForCause, Lawful, closer_wins, newcomer_yields, elder_verdict, oldest_stands};
+ghost use Rattle.rule.specs.Verdicts.{touched, invalidates, closes_over_a_reader, Enough, OnlyForCause, Lawful, closer_wins, newcomer_yields, elder_verdict, oldest_stands};
 ghost use Rattle.rule.specs.declared.Contact.{Contact};
 ghost use Rattle.rule.specs.declared.Verdict.{Verdict};
 ghost use Rattle.std.proofs.Common.{rules};
+
+use std::cmp::Ordering;
 
 #[cfg(test)]
 mod tests;
@@ -59,6 +61,23 @@ impl Contact {
     {
         self.caller.written && self.other.read
     }
+
+    // Does the caller close, having written what the other has read?
+    fn closes_over_a_reader(&self) -> bool
+        ensures { result ≡ closes_over_a_reader self.now }
+    {
+        self.event == Event::Close && self.invalidates()
+    }
+
+    // The smaller opening number stands; the caller yields if they are equal.
+    fn elder_stands(&self) -> Verdict
+        ensures { result ≡ elder_verdict self.now.caller.number self.now.other.number }
+    {
+        match self.caller.number.cmp(&self.other.number) {
+            Ordering::Less => Verdict::OtherYields,
+            Ordering::Equal | Ordering::Greater => Verdict::CallerYields,
+        }
+    }
 }
 
 // A rule is a function from contacts to verdicts. A question leaves the rule as it is.
@@ -76,7 +95,7 @@ pub trait Rule {
 
 // Whatever implements the trait is lawful.
 pub fn each_rule_is_lawful<R: Rule>(rule: &R)
-    ensures { Lawful (R.Rule.verdict rule.now) }
+    ensures { Lawful (R.verdict rule.now) }
 {}
 
 // At a close, who has read what the closer has written yields.
@@ -91,14 +110,10 @@ impl Rule for CloserWins {
     ghost cause = { Prim.search rules };
 
     fn judge(&self, contact: Contact) -> Verdict {
-        match contact.event {
-            Event::Read => Verdict::BothStand,
-            Event::Write => Verdict::BothStand,
-            Event::Close => if contact.invalidates() {
-                Verdict::OtherYields
-            } else {
-                Verdict::BothStand
-            },
+        if contact.closes_over_a_reader() {
+            Verdict::OtherYields
+        } else {
+            Verdict::BothStand
         }
     }
 }
@@ -141,25 +156,10 @@ impl Rule for OldestStands {
     ghost cause = { Prim.search rules };
 
     fn judge(&self, contact: Contact) -> Verdict {
-        match contact.event {
-            Event::Read => Verdict::BothStand,
-            Event::Write => Verdict::BothStand,
-            Event::Close => if contact.invalidates() {
-                elder_stands(contact.caller.number, contact.other.number)
-            } else {
-                Verdict::BothStand
-            },
+        if contact.closes_over_a_reader() {
+            contact.elder_stands()
+        } else {
+            Verdict::BothStand
         }
-    }
-}
-
-// The smaller opening number stands; the caller yields if they are equal.
-fn elder_stands(caller: u32, other: u32) -> Verdict
-    ensures { result ≡ elder_verdict caller other }
-{
-    if caller < other {
-        Verdict::OtherYields
-    } else {
-        Verdict::CallerYields
     }
 }

@@ -58,8 +58,7 @@ const READER_YIELDS: Table = [
     [S, O, S, O], // it has read and written
 ];
 
-fn side_of(client: u8, number: u32, flags: Flags) -> Side {
-    let (read, written) = flags;
+fn side_of(client: u8, number: u32, (read, written): Flags) -> Side {
     Side {
         client,
         number,
@@ -77,74 +76,76 @@ fn met(event: Event, caller: Side, other: Side) -> Contact {
     }
 }
 
-// A line of a table.
-fn line_holds<R: Rule>(
-    rt: &impl Abort,
-    rule: &R,
-    event: Event,
-    caller: Side,
-    number: u32,
-    line: [Verdict; 4],
-) {
-    for i in 0..4 {
-        let contact = met(event, caller, side_of(5, number, ORDER[i]));
-        assert_eq!(rt; rule.judge(contact), line[i], "{contact:?}");
-    }
+// A rule on trial, and the runtime that ends a test that fails.
+#[derive(Drop)]
+struct Trial<A, R> {
+    rt: A,
+    rule: R,
 }
 
-// The 16 verdicts of a table, at opening numbers of the caller and of the other.
-fn table_holds<R: Rule>(
-    rt: &impl Abort,
-    rule: &R,
-    event: Event,
-    caller: u32,
-    other: u32,
-    table: Table,
-) {
-    for i in 0..4 {
-        let caller = side_of(2, caller, ORDER[i]);
-        line_holds(rt, rule, event, caller, other, table[i]);
+impl<A: Abort, R: Rule> Trial<A, R> {
+    // A line of a table.
+    fn line_holds(&self, event: Event, caller: Side, number: u32, line: [Verdict; 4]) {
+        for (flags, verdict) in ORDER.into_iter().zip(line) {
+            let contact = met(event, caller, side_of(5, number, flags));
+            assert_eq!(self.rt; self.rule.judge(contact), verdict, "{contact:?}");
+        }
     }
-}
 
-// The 48 verdicts at an event: the caller's opening number is the smaller one, equal, the larger one.
-fn event_holds<R: Rule>(rt: &impl Abort, rule: &R, event: Event, tables: [Table; 3]) {
-    table_holds(rt, rule, event, 6, 7, tables[0]);
-    table_holds(rt, rule, event, 7, 7, tables[1]);
-    table_holds(rt, rule, event, 7, 6, tables[2]);
+    // The 16 verdicts of a table, at opening numbers of the caller and of the other.
+    fn table_holds(&self, event: Event, caller: u32, other: u32, table: Table) {
+        for (flags, line) in ORDER.into_iter().zip(table) {
+            self.line_holds(event, side_of(2, caller, flags), other, line);
+        }
+    }
+
+    // The 48 verdicts at an event: the caller's opening number is the smaller one, equal, the larger one.
+    fn event_holds(&self, event: Event, [smaller, equal, larger]: [Table; 3]) {
+        self.table_holds(event, 6, 7, smaller);
+        self.table_holds(event, 7, 7, equal);
+        self.table_holds(event, 7, 6, larger);
+    }
 }
 
 #[test]
 fn closer_wins(rt: HostRuntime) {
-    let rule = CloserWins;
-    event_holds(&rt, &rule, Event::Read, [BOTH_STAND; 3]);
-    event_holds(&rt, &rule, Event::Write, [BOTH_STAND; 3]);
-    event_holds(&rt, &rule, Event::Close, [READER_YIELDS; 3]);
+    let trial = Trial {
+        rt,
+        rule: CloserWins,
+    };
+    trial.event_holds(Event::Read, [BOTH_STAND; 3]);
+    trial.event_holds(Event::Write, [BOTH_STAND; 3]);
+    trial.event_holds(Event::Close, [READER_YIELDS; 3]);
 }
 
 #[test]
 fn newcomer_yields(rt: HostRuntime) {
-    let rule = NewcomerYields;
-    event_holds(&rt, &rule, Event::Read, [YIELDS_TO_A_WRITE; 3]);
-    event_holds(&rt, &rule, Event::Write, [YIELDS_TO_A_TOUCH; 3]);
-    event_holds(&rt, &rule, Event::Close, [WRITER_YIELDS; 3]);
+    let trial = Trial {
+        rt,
+        rule: NewcomerYields,
+    };
+    trial.event_holds(Event::Read, [YIELDS_TO_A_WRITE; 3]);
+    trial.event_holds(Event::Write, [YIELDS_TO_A_TOUCH; 3]);
+    trial.event_holds(Event::Close, [WRITER_YIELDS; 3]);
 }
 
 #[test]
 fn oldest_stands(rt: HostRuntime) {
-    let rule = OldestStands;
+    let trial = Trial {
+        rt,
+        rule: OldestStands,
+    };
     let at_close = [READER_YIELDS, WRITER_YIELDS, WRITER_YIELDS];
-    event_holds(&rt, &rule, Event::Read, [BOTH_STAND; 3]);
-    event_holds(&rt, &rule, Event::Write, [BOTH_STAND; 3]);
-    event_holds(&rt, &rule, Event::Close, at_close);
+    trial.event_holds(Event::Read, [BOTH_STAND; 3]);
+    trial.event_holds(Event::Write, [BOTH_STAND; 3]);
+    trial.event_holds(Event::Close, at_close);
 }
 
 #[test]
 fn a_read_or_a_write_touches(rt: HostRuntime) {
-    assert_eq!(rt; side_of(0, 1, (false, false)).touched(), false);
-    assert_eq!(rt; side_of(0, 1, (true, false)).touched(), true);
-    assert_eq!(rt; side_of(0, 1, (false, true)).touched(), true);
-    assert_eq!(rt; side_of(0, 1, (true, true)).touched(), true);
+    for (flags, touches) in ORDER.into_iter().zip([false, true, true, true]) {
+        assert_eq!(rt; side_of(0, 1, flags).touched(), touches, "{flags:?}");
+    }
 }
 
 #[test]
@@ -152,11 +153,11 @@ fn a_write_invalidates_what_the_other_has_read(rt: HostRuntime) {
     let nothing = side_of(0, 1, (false, false));
     let reader = side_of(1, 2, (true, false));
     let writer = side_of(2, 3, (false, true));
-    assert_eq!(rt; met(Event::Close, writer, reader).invalidates(), true);
-    assert_eq!(rt; met(Event::Close, reader, writer).invalidates(), false);
-    assert_eq!(rt; met(Event::Close, writer, writer).invalidates(), false);
-    assert_eq!(rt; met(Event::Close, reader, reader).invalidates(), false);
-    assert_eq!(rt; met(Event::Close, writer, nothing).invalidates(), false);
-    assert_eq!(rt; met(Event::Close, nothing, reader).invalidates(), false);
-    assert_eq!(rt; met(Event::Read, writer, reader).invalidates(), true);
+    assert!(rt; met(Event::Close, writer, reader).invalidates());
+    assert!(rt; !met(Event::Close, reader, writer).invalidates());
+    assert!(rt; !met(Event::Close, writer, writer).invalidates());
+    assert!(rt; !met(Event::Close, reader, reader).invalidates());
+    assert!(rt; !met(Event::Close, writer, nothing).invalidates());
+    assert!(rt; !met(Event::Close, nothing, reader).invalidates());
+    assert!(rt; met(Event::Read, writer, reader).invalidates());
 }

@@ -1,4 +1,5 @@
 use Rattle.std.proofs.Common.{◌≡◌, [], length, sym, ap, ◌∙◌, subst}
+use Rattle.std.proofs.lemmas.List.Elements.{All-nil}
 use Rattle.bank.specs.Holding.{held_by, SoundHeld}
 use Rattle.combination.specs.Pressing.{pressing}
 use Rattle.combination.proofs.Through.{low, mid, low_outside, low_fixed, high_is, through, outside_below, fixed_below}
@@ -10,8 +11,7 @@ returns g c =
     let outside = g.B.Bank.outside in
     let fixed = g.B.Bank.fixed in
     let bank = c.args.bank in
-    let inner = c.args.inner in
-    let outer = c.args.outer in
+    let both = c.args.windows in
     let values = c.args.values.now in
     let t = c.new-top.result in
     let t' = c.press-reply.new.bank in
@@ -19,7 +19,7 @@ returns g c =
     let w = c.finish-2.result in
     let p = c.press-reply.ensures in
     let s = c.finish-2.ensures in
-    let inner_is : t.below.below.span ≡ inner = ap (λ h. h.below.span) c.new-top.ensures.below ∙ ap (λ b. b.span) c.new-2.ensures.below ∙ c.new.ensures.span in
+    let inner_is : t.below.below.span ≡ both.inner = ap (λ h. h.below.span) c.new-top.ensures.below ∙ ap (λ b. b.span) c.new-2.ensures.below ∙ c.new.ensures.span in
     let bank_is : t.below.below.below ≡ bank = ap (λ h. h.below.below) c.new-top.ensures.below ∙ ap (λ b. b.below) c.new-2.ensures.below ∙ c.new.ensures.below in
     let held_none : held_by t.below ≡ [] = ap held_by c.new-top.ensures.below ∙ c.new-2.ensures.held in
     let handed = c.finish.ensures in
@@ -28,10 +28,10 @@ returns g c =
     let w_unaltered = s.kept.unaltered ∙ ap (λ h. low_fixed cells outside fixed h.below) handed in
     let last = sym c.finish-3.ensures in
     record {
-      value = p.value ∙ ap (pressing values) (high_is cells outside fixed bank inner outer t bank_is inner_is held_none c.new-top.ensures.span);
-      after = sym (ap cells last) ∙ through cells outside fixed bank inner outer t bank_is inner_is held_none c.new-top.ensures.span values t' w p.after p.kept.unmoved p.kept.unaltered settled w_unmoved w_unaltered;
+      value = p.value ∙ ap (pressing values) (high_is cells outside fixed bank both t bank_is inner_is held_none c.new-top.ensures.span);
+      after = sym (ap cells last) ∙ through cells outside fixed bank both t bank_is inner_is held_none c.new-top.ensures.span values t' w p.after p.kept.unmoved p.kept.unaltered settled w_unmoved w_unaltered;
       kept = record {
-        soundness = λ sound. subst g.B.Bank.sound last (s.kept.soundness (subst (λ h. g.B.Bank.sound h.below.below) (sym handed) (p.kept.soundness (subst g.B.Bank.sound (sym bank_is) sound, subst (SoundHeld (length (low cells outside fixed t.below.below))) (sym held_none) (record { fit = tt; apart = tt }))).0));
+        soundness = λ sound. subst g.B.Bank.sound last (s.kept.soundness (subst (λ h. g.B.Bank.sound h.below.below) (sym handed) (p.kept.soundness (subst g.B.Bank.sound (sym bank_is) sound, subst (SoundHeld (length (low cells outside fixed t.below.below))) (sym held_none) (record { fit = All-nil _; apart = tt }))).0));
         unmoved = sym (ap outside last) ∙ outside_below cells outside fixed bank t t' w bank_is p.kept.unmoved w_unmoved;
         unaltered = sym (ap fixed last) ∙ fixed_below cells outside fixed bank t t' w bank_is p.kept.unaltered w_unaltered;
       };

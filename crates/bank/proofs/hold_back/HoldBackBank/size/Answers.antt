@@ -1,16 +1,10 @@
-use Rattle.std.proofs.Common.{length, sym, refl, ap, ◌∙◌}
+use Rattle.std.proofs.Common.{sym, refl, ◌∙◌}
 use Rattle.bank.specs.Cells.{none, more}
-use Rattle.bank.specs.Holding.{held_by, replaced, length-replaced}
-use Rattle.bank.proofs.Holds.{hold_kept}
+use Rattle.bank.specs.Holding.{held_by, length-replaced}
 use Rattle.bank.proofs.hold_back.HoldBackBank.size.Goals as goal
 
-pub returns : goal.returns
-returns g c =
-    let h = c.args.self.now in
-    let e = c.size.ensures in
-    record {
-      value = e.value ∙ sym (length-replaced (held_by h) (g.B.Bank.cells h.below));
-      same = ap (replaced (held_by h)) e.same;
-      kept = hold_kept g.B.Bank.cells (ap length e.same) (λ f. f) e.kept;
-      idle = record { same_held = refl; same_below = e.same; way = more e.idle none };
-    }
+pub returns-clause-value : goal.returns-clause-value
+returns-clause-value g c = c.size.ensures.value ∙ sym (length-replaced (held_by c.args.self.now) (g.B.Bank.cells c.args.self.now.below))
+
+pub returns-clause-idle : goal.returns-clause-idle
+returns-clause-idle g c = record { same_held = refl; same_below = c.size.ensures.same; way = more c.size.ensures.idle none }
