@@ -54,7 +54,7 @@ impl<B: Bank> HoldBack<B> {
         self.held.as_slice()
     }
 
-    // The place of the newest value that is held for the cell.
+    // The place of the newest value that is held for the cell. (A place and no reference, since a write replaces what is there.)
     fn newest(&self, cell: usize) -> Option<usize>
         ensures value { result ≡ place_of (held_by self.now) cell }
         ensures within { IfSome result (λ i. i < length (held_by self.now)) }
@@ -62,7 +62,7 @@ impl<B: Bank> HoldBack<B> {
         self.held.iter().rposition(|h| h.cell == cell)
     }
 
-    // Sends what is held down, the oldest first.
+    // Sends what is held down, the oldest first. (`kept`: see `Bank`.)
     pub fn settle(&mut self)
         ensures settled { SentDown B.cells B.idles B.takes self.old self.new.below }
         ensures kept { Preserved B.sound B.outside B.fixed self.old.below self.new.below }
@@ -77,7 +77,7 @@ impl<B: Bank> HoldBack<B> {
         self.held.clear();
     }
 
-    // Hands the bank below back, after sending down what is held.
+    // Hands the bank below back, after sending down what is held. (`kept`: see `Bank`.)
     pub fn finish(mut self) -> B
         ensures settled { SentDown B.cells B.idles B.takes self result }
         ensures kept { Preserved B.sound B.outside B.fixed self.below result }
@@ -87,7 +87,7 @@ impl<B: Bank> HoldBack<B> {
         below
     }
 
-    // Where eight cells are held, sends them down.
+    // Where eight cells are held, sends them down. (`kept`: see `Bank`.)
     fn make_room(&mut self)
         ensures room { length (held_by self.new) < 8 }
         ensures held { held_by self.new ≡ staying (held_by self.old) }
@@ -100,7 +100,7 @@ impl<B: Bank> HoldBack<B> {
         }
     }
 
-    // Is the cell one of the bank below?
+    // Is the cell one of the bank below? (`kept`: see `Bank`.)
     fn reach(&mut self, cell: usize) -> Result<(), Refusal>
         ensures value { MatchResult result (λ _. cell < length (B.cells self.old.below)) (λ e. (label_of e ≡ labelled 6 []) × (length (B.cells self.old.below) ≤ cell)) }
         ensures held { held_by self.new ≡ held_by self.old }
@@ -159,6 +159,7 @@ impl<B: Bank> Bank for HoldBack<B> {
 }
 
 // Settles a hold-back that lies over another one, which then holds what was sent in the order in which it came.
+// (`kept`: see `Bank`.)
 pub fn settle_upper<B: Bank>(upper: &mut HoldBack<HoldBack<B>>)
     ensures lower { SoundHeld (length (held_over B.cells upper.old.below)) (held_by upper.old) → held_by upper.new.below ≡ taken_in (held_by upper.old.below) (held_by upper.old) }
     ensures held { held_by upper.new ≡ [] }

@@ -42,7 +42,7 @@ pub trait Bank {
     // How a granted write of a cell and a value leaves the bank, layer by layer.
     ghost takes: { Self → ℕ → ℕ → Self → Type 0 };
 
-    // The number of cells. (`kept` stands on each call, since it ties what is after a call to what was before it, as no invariant can.)
+    // The number of cells. (`kept` stands on each call, here and elsewhere, since it ties what is after it to what was before, as no invariant can.)
     fn size(&mut self) -> usize
         ensures value { result ≡ length (cells self.old) }
         ensures same { cells self.new ≡ cells self.old }

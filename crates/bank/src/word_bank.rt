@@ -1,6 +1,5 @@
 ghost use Rattle.std.specs.Prelude.{◌≡◌, true, false, [], ◌∷◌, length, MatchResult, slice_set};
 ghost use Rattle.refusal.specs.Labels.{label_of, labelled, reply_of};
-ghost use Rattle.bank.specs.Cells.{FitWords};
 ghost use Rattle.bank.specs.Rows.{admitted, admitting, row_cells, row_outside, SoundRow, row_few, row_words};
 
 use super::{Bank, MOST};
@@ -20,9 +19,9 @@ pub struct RowRefused<'a> {
 }
 
 impl<'a> From<RowRefused<'a>> for Refusal {
-    fn from(refused: RowRefused<'a>) -> Refusal
-        ensures { result ≡ refused.entry.refusal }
-    {
+    ghost from_gives = { λ refused e. e ≡ refused.refusal };
+
+    fn from(refused: RowRefused<'a>) -> Refusal {
         refused.refusal
     }
 }
@@ -50,7 +49,7 @@ impl<'a> WordBank<'a> {
         WordBank { row }
     }
 
-    // `admits` and `new` in one. A row that is not admitted is handed back with the refusal. (Its name says at a call what is made, as `try_from` would not.)
+    // `admits` and `new` in one. A row that is not admitted is handed back with the refusal. (A `TryFrom` would be the same call under another name.)
     pub fn over(row: &'a mut [u16]) -> Result<WordBank<'a>, RowRefused<'a>>
         ensures { MatchResult result (λ b. (b.row.now ≡ row.old) × (b.row.ghost_name ≡ row.entry.ghost_name) × SoundRow b.row.now) (λ e. (label_of e.refusal ≡ labelled 8 []) × (admitted (length row.old) ≡ false) × (e.row.now ≡ row.old) × (e.row.ghost_name ≡ row.entry.ghost_name)) }
     {
@@ -71,7 +70,7 @@ impl<'a> WordBank<'a> {
         }
     }
 
-    // Hands the row back. (`place` says which memory it is, here and in `new`; no type can.)
+    // Hands the row back. (A `From` would not say what it makes. `place` says which memory it is, as in `new` and `over`; no type can.)
     pub fn into_row(self) -> &'a mut [u16]
         ensures row { result.now ≡ self.entry.row.now }
         ensures place { result.ghost_name ≡ self.entry.row.ghost_name }
@@ -107,6 +106,7 @@ impl<'a> Bank for WordBank<'a> {
     }
 
     fn write(&mut self, cell: usize, value: u16) -> Result<(), Refusal> {
+        // By index: of what is written through a slice's `get_mut` a proof knows nothing.
         if cell < self.words().len() {
             self.row[cell] = value;
             Ok(())

@@ -60,10 +60,3 @@ module _ {B : Type 0} (cells : B → List ℕ) (outside : B → List (List ℕ))
         let shown : high t' ≡ windowed f2 n2 (mid t'.below) = ap (λ k. windowed k t'.span.length (mid t'.below)) t1 ∙ ap (λ k. windowed f2 k (mid t'.below)) t2 in
         let on_top : windowed f2 n2 (mid t'.below) ≡ pressed values S = sym shown ∙ p ∙ ap (pressed values) high_is in
         pressed_through f1 n1 f2 n2 (cells bank) (mid t'.below) (cells w.below) middle front1 behind1 front2 behind2 values on_top
-
-  module _ (bank : B) (t t' : Window (HoldBack (Window B))) (w : Window B) (bank_is : t.below.below.below ≡ bank) where
-    pub outside_below : high_outside t' ≡ high_outside t → low_outside w ≡ low_outside t'.below.below → outside w.below ≡ outside bank
-    outside_below unmoved w_unmoved = cc
-
-    pub fixed_below : high_fixed t' ≡ high_fixed t → low_fixed w ≡ low_fixed t'.below.below → fixed w.below ≡ fixed bank
-    fixed_below unaltered w_unaltered = cc

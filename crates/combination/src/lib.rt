@@ -14,7 +14,8 @@ mod windows;
 
 pub use windows::Windows;
 
-// Writes the values to the first cells in order or, where there are too few cells, writes none.
+// Writes the values to the first cells in order or, where there are too few cells, writes none. (`kept`, here and below: see
+// `Bank`.)
 pub fn press<B: Bank>(bank: &mut B, values: &[u16]) -> Result<(), Refusal>
     ensures value { reply_of result ≡ pressing values.now (B.cells bank.old) }
     ensures after { B.cells bank.new ≡ pressed values.now (B.cells bank.old) }
@@ -43,7 +44,7 @@ fn press_through<B: Bank>(bank: B, windows: Windows, values: &[u16]) -> (B, Resu
     (top.finish().finish().finish(), reply)
 }
 
-// The same on a lent row, which is handed back in the same way.
+// The same on a lent row, which is handed back in the same way. (`place`: see `WordBank::into_row`.)
 fn press_and_return<'a>(
     row: &'a mut [u16],
     windows: Windows,

@@ -118,7 +118,7 @@ impl Fields<'_> {
     }
 }
 
-// That a line asks for nothing.
+// That a line asks for nothing. (By hand: one text, for which a derive would bring in a crate.)
 #[derive(Clone, Copy, Debug)]
 pub struct NotAnAction;
 

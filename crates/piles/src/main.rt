@@ -9,7 +9,7 @@ mod reply;
 mod row;
 mod top;
 
-use bank::{Bank, Span, WordBank};
+use bank::{Span, WordBank};
 use layers::Layers;
 use line::{Action, Line, Plan};
 use listing::Listing;

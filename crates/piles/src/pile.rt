@@ -5,7 +5,7 @@ use super::reply::Answer;
 use super::top::Top;
 use bank::{Bank, HoldBack, Span, Window};
 use listing::Listing;
-use refusal::Refusal;
+use refusal::{Refusal, Worded};
 use std::io;
 use std::slice::Iter;
 
@@ -21,10 +21,7 @@ impl Turn<'_> {
     fn act<B: Bank + Top>(&mut self, bank: &mut B) -> io::Result<()> {
         for line in self.lines.by_ref() {
             match line {
-                Ok(Action::Ask(ask)) => match answer(bank, *ask) {
-                    Ok(answer) => println!(self.rt; "{answer}")?,
-                    Err(refusal) => println!(self.rt; "{refusal}")?,
-                },
+                Ok(Action::Ask(ask)) => println!(self.rt; "{}", Worded(answer(bank, *ask)))?,
                 Ok(Action::Pile(_) | Action::TakeApart) => return Ok(()),
                 Err(error) => println!(self.rt; "{error}")?,
             }

@@ -4,26 +4,13 @@
 use bank::{Bank, HoldBack, Span, Window, WordBank};
 use combination::Windows;
 use listing::Listing;
-use refusal::Refusal;
-use std::{fmt, io};
+use refusal::Worded;
+use std::io;
 
 // Where the general pistons' forty cells lie on the row.
 const FIRST: usize = 4;
 
 const CELLS: usize = 40;
-
-// What a call grants, or why it is declined.
-#[derive(Clone, Copy)]
-struct Reply<T>(Result<T, Refusal>);
-
-impl<T: fmt::Display> fmt::Display for Reply<T> {
-    fn fmt<W: fmt::Write>(&self, f: &mut fmt::Formatter<W>) -> fmt::Result {
-        match &self.0 {
-            Ok(granted) => write!(f, "{granted}"),
-            Err(refusal) => write!(f, "{refusal}"),
-        }
-    }
-}
 
 // A combination that tells its cells apart: cell i has i in both bytes.
 fn numbered() -> [u16; CELLS] {
@@ -45,7 +32,7 @@ fn print_held<B: Bank>(rt: &HostRuntime, bank: &HoldBack<B>) -> io::Result<()> {
 // Writes the combination cell by cell.
 fn set<B: Bank>(rt: &HostRuntime, bank: &mut B, piston: &[u16]) -> io::Result<()> {
     for (cell, value) in piston.iter().enumerate() {
-        let reply = Reply(bank.write(cell, *value).map(|()| "ok"));
+        let reply = Worded(bank.write(cell, *value).map(|()| "ok"));
         println!(rt; "set {cell} to {value}: {reply}")?;
     }
     Ok(())
@@ -54,7 +41,7 @@ fn set<B: Bank>(rt: &HostRuntime, bank: &mut B, piston: &[u16]) -> io::Result<()
 // Reads so many cells, and the one after them. (The numbers count: there is no list to go over.)
 fn read_back<B: Bank>(rt: &HostRuntime, bank: &mut B, cells: usize) -> io::Result<()> {
     for cell in 0..=cells {
-        let reply = Reply(bank.read(cell));
+        let reply = Worded(bank.read(cell));
         println!(rt; "read {cell}: {reply}")?;
     }
     Ok(())
@@ -76,10 +63,10 @@ fn play<B: Bank + Drop>(rt: &HostRuntime, bank: B, span: Span, piston: &[u16]) -
 fn press(rt: &HostRuntime, row: &mut [u16], span: Span, values: &[u16]) -> anyhow::Result<()> {
     let cells = values.len();
     let windows = Windows {
-        inner: Span::new(0, 4048)?,
+        inner: Span::new(0, bank::MOST)?,
         outer: span,
     };
-    let reply = Reply(combination::press_row(row, windows, values).map(|()| "ok"));
+    let reply = Worded(combination::press_row(row, windows, values).map(|()| "ok"));
     println!(rt; "press {cells} cells: {reply}")?;
     print_row(rt, row)?;
     Ok(())

@@ -1,5 +1,5 @@
 -- The number and the values of every refusal, its text, and replies. Assumes nothing.
-use Rattle.std.specs.Prelude.{ℕ, List, [], ◌∷◌, ◌++◌, Ok, Err, codes, decimal, Result}
+use Rattle.std.specs.Prelude.{ℕ, List, [], ◌∷◌, ◌++◌, Ok, Err, Some, Option, codes, decimal, Result}
 use Rattle.refusal.specs.declared.Refusal.{Refusal}
 use Rattle.refusal.specs.declared.Refusal.TheVariants.{NoSuchClient, AlreadyOpen, NumbersUsedUp, NoTransaction, Yields, NoSuchCell, TableFull, LengthNotAdmitted, BlockNumberWrong, BlockCountWrong, BlockCheckWrong, WindowBeyondLimit, ListFull}
 
@@ -46,6 +46,11 @@ wording ListFull = codes "list full"
 -- The text of a refusal: its number, and then what is wrong.
 unfoldable pub text_of : Refusal → List ℕ
 text_of e = codes "refused " ++ (decimal (label_of e).number ++ (codes ": " ++ wording e))
+
+-- What a call's reply says in words, where `out` is what a granted value says.
+abbrev pub worded : {T : Type 0} → (T → Option (List ℕ)) → Result T Refusal → Option (List ℕ)
+worded out (Ok x) = out x
+worded out (Err e) = Some (text_of e)
 
 -- A call's reply as the rules put it: granted with a value, or declined with a number and its values.
 pub data Reply (X : Type 0) : Type 0 where

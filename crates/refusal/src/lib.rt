@@ -2,7 +2,7 @@
 #![tactic(auto)]
 
 ghost use Rattle.std.specs.Prelude.{◌≡◌, Some};
-ghost use Rattle.refusal.specs.Labels.{label_of, text_of};
+ghost use Rattle.refusal.specs.Labels.{label_of, text_of, worded};
 
 use std::error::Error;
 use std::fmt;
@@ -26,7 +26,7 @@ pub enum Refusal {
 }
 
 impl Refusal {
-    // The number by which the rules know it. (A method and no discriminant, since some cases carry values.)
+    // The number by which the rules know it. (The rules ask for it; no discriminant can be it, since some cases carry values.)
     pub fn number(&self) -> u8
         ensures { result ≡ (label_of self.now).number }
     {
@@ -48,6 +48,7 @@ impl Refusal {
     }
 }
 
+// (By hand: what a derived text says, no contract says.)
 impl fmt::Display for Refusal {
     ghost output = { λ e. Some (text_of e) };
 
@@ -86,6 +87,21 @@ impl fmt::Display for Refusal {
 
 impl Error for Refusal {}
 
+// A call's reply in words: what is granted, or the text of the refusal.
+#[derive(Clone, Copy)]
+pub struct Worded<T>(pub Result<T, Refusal>);
+
+impl<T: fmt::Display> fmt::Display for Worded<T> {
+    ghost output = { λ w. worded T.output w.0 };
+
+    fn fmt<W: fmt::Write>(&self, f: &mut fmt::Formatter<W>) -> fmt::Result {
+        match &self.0 {
+            Ok(granted) => write!(f, "{granted}"),
+            Err(refusal) => write!(f, "{refusal}"),
+        }
+    }
+}
+
 #[cfg(test)]
 mod tests {
     use super::*;
@@ -115,8 +131,8 @@ mod tests {
             Refusal::WindowBeyondLimit,
             Refusal::ListFull,
         ];
-        for (i, refusal) in all.iter().enumerate() {
-            assert_eq!(rt; usize::from(refusal.number()), i.saturating_add(1));
+        for (number, refusal) in (1..).zip(&all) {
+            assert_eq!(rt; refusal.number(), number);
         }
     }
 
@@ -138,5 +154,15 @@ mod tests {
             "refused 11: wrong check in block 15",
         )?;
         shows(&rt, Refusal::ListFull, "refused 13: list full")
+    }
+
+    #[test]
+    fn a_reply_in_words_is_the_value_or_the_refusal(rt: HostRuntime) -> Result<(), Fail> {
+        let granted = Worded(Ok(17)).to_string(rt.alloc())?;
+        assert_eq!(rt; granted.as_str(), "17");
+        let none: Result<u16, Refusal> = Err(Refusal::NoSuchCell);
+        let declined = Worded(none).to_string(rt.alloc())?;
+        assert_eq!(rt; declined.as_str(), "refused 6: no such cell");
+        Ok(())
     }
 }

@@ -131,6 +131,7 @@ impl Rule for NewcomerYields {
     ghost cause = { Prim.search rules };
 
     fn judge(&self, contact: Contact) -> Verdict {
+        // Each event asks something else, so there is nothing to share with the other rules.
         let late = match contact.event {
             Event::Read => contact.other.written,
             Event::Write => contact.other.touched(),

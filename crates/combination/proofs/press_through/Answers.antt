@@ -1,12 +1,10 @@
-use Rattle.std.proofs.Common.{◌≡◌, [], length, sym, ap, ◌∙◌, subst}
-use Rattle.std.proofs.lemmas.List.Elements.{All-nil}
-use Rattle.bank.specs.Holding.{held_by, SoundHeld}
-use Rattle.combination.specs.Pressing.{pressing}
-use Rattle.combination.proofs.Through.{low, mid, low_outside, low_fixed, high_is, through, outside_below, fixed_below}
+use Rattle.std.proofs.Common.{◌≡◌, [], sym, ap, ◌∙◌}
+use Rattle.bank.specs.Holding.{held_by}
+use Rattle.combination.proofs.Through.{mid, low_outside, low_fixed, through}
 use Rattle.combination.proofs.press_through.Goals as goal
 
-pub returns : goal.returns
-returns g c =
+pub returns-clause-after : goal.returns-clause-after
+returns-clause-after g c =
     let cells = g.B.Bank.cells in
     let outside = g.B.Bank.outside in
     let fixed = g.B.Bank.fixed in
@@ -27,12 +25,4 @@ returns g c =
     let w_unmoved = s.kept.unmoved ∙ ap (λ h. low_outside cells outside fixed h.below) handed in
     let w_unaltered = s.kept.unaltered ∙ ap (λ h. low_fixed cells outside fixed h.below) handed in
     let last = sym c.finish-3.ensures in
-    record {
-      value = p.value ∙ ap (pressing values) (high_is cells outside fixed bank both t bank_is inner_is held_none c.new-top.ensures.span);
-      after = sym (ap cells last) ∙ through cells outside fixed bank both t bank_is inner_is held_none c.new-top.ensures.span values t' w p.after p.kept.unmoved p.kept.unaltered settled w_unmoved w_unaltered;
-      kept = record {
-        soundness = λ sound. subst g.B.Bank.sound last (s.kept.soundness (subst (λ h. g.B.Bank.sound h.below.below) (sym handed) (p.kept.soundness (subst g.B.Bank.sound (sym bank_is) sound, subst (SoundHeld (length (low cells outside fixed t.below.below))) (sym held_none) (record { fit = All-nil _; apart = tt }))).0));
-        unmoved = sym (ap outside last) ∙ outside_below cells outside fixed bank t t' w bank_is p.kept.unmoved w_unmoved;
-        unaltered = sym (ap fixed last) ∙ fixed_below cells outside fixed bank t t' w bank_is p.kept.unaltered w_unaltered;
-      };
-    }
+    sym (ap cells last) ∙ through cells outside fixed bank both t bank_is inner_is held_none c.new-top.ensures.span values t' w p.after p.kept.unmoved p.kept.unaltered settled w_unmoved w_unaltered
