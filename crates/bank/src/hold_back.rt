@@ -140,6 +140,7 @@ impl<B: Bank> Bank for HoldBack<B> {
     fn read(&mut self, cell: usize) -> Result<u16, Refusal> {
         self.reach(cell)?;
         match self.newest(cell) {
+            // By its place, as in `write`.
             Some(i) => Ok(self.held[i].value),
             None => self.below.read(cell),
         }
@@ -148,6 +149,7 @@ impl<B: Bank> Bank for HoldBack<B> {
     fn write(&mut self, cell: usize, value: u16) -> Result<(), Refusal> {
         self.reach(cell)?;
         match self.newest(cell) {
+            // By its place: the cell there is replaced.
             Some(i) => self.held[i] = HeldCell { cell, value },
             None => {
                 self.make_room();
