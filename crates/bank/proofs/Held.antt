@@ -53,6 +53,9 @@ found_reading hs cells cell i d e lt = grind (arith, found_cell, length-replaced
 pub absent_reading : (hs : List HeldCell) (cells : List ℕ) (cell : ℕ) → place_of hs cell ≡ None → reading cells cell ≡ reading (replaced hs cells) cell
 absent_reading hs cells cell e = grind (arith, absent_cell, length-replaced)
 
+-- What the check needs to know of a hold-back: as many cells as below, and what a read of a held cell and of another replies.
+pub ruleset held_replies = (length-replaced, found_reading, absent_reading)
+
 -- ---- no cell is held twice, after a write either
 place_set : (hs : List HeldCell) (cell i v d : ℕ) → place_of hs cell ≡ Some i → place_of (set hs i (held_cell cell v)) d ≡ place_of hs d
 place_set [] cell i v d e = grind arith

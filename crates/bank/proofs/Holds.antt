@@ -8,7 +8,7 @@ use Rattle.bank.proofs.Held.{stored_cells, stored_sound}
 use Rattle.bank.proofs.Ways.{preserved_then}
 
 -- Keeping, where the number of cells below is the same.
-pub hold_kept : {B : Type 0} (cells : B → List ℕ) {sound : B → Type 0} {outside : B → List (List ℕ)} {fixed : B → List ℕ} {h h' : HoldBack B} → length (cells h'.below) ≡ length (cells h.below) → (SoundHeld (length (cells h.below)) (held_by h) → SoundHeld (length (cells h.below)) (held_by h')) → Preserved sound outside fixed h.below h'.below → Preserved (HoldSound sound cells) (λ (k : HoldBack B). outside k.below) (λ (k : HoldBack B). fixed k.below) h h'
+hold_kept : {B : Type 0} (cells : B → List ℕ) {sound : B → Type 0} {outside : B → List (List ℕ)} {fixed : B → List ℕ} {h h' : HoldBack B} → length (cells h'.below) ≡ length (cells h.below) → (SoundHeld (length (cells h.below)) (held_by h) → SoundHeld (length (cells h.below)) (held_by h')) → Preserved sound outside fixed h.below h'.below → Preserved (HoldSound sound cells) (λ (k : HoldBack B). outside k.below) (λ (k : HoldBack B). fixed k.below) h h'
 hold_kept cells same fit kept = grind arith
 
 -- A hold-back m that was asked and holds what h does.
@@ -25,7 +25,7 @@ module _ {B : Type 0} (cells : B → List ℕ) (idles : B → B → Type 0) (tak
     pub moved : MovedBy (held_over cells) (HoldIdles cells idles) (HoldTakes cells idles (MovedBy cells idles takes)) h i v h'
 
   module _ (word : FitsWord v) (within : i < length (cells h.below)) (held : held_by m ≡ held_by h) (same : cells m.below ≡ cells h.below) (kept : Preserved sound outside fixed h.below m.below) (idle : idles h.below m.below) where
-    pub taken : held_by h' ≡ stored (held_by m) i v → cells h'.below ≡ replaced (overflow (held_by m) i) (cells m.below) → Preserved sound outside fixed m.below h'.below → Sent (MovedBy cells idles takes) m.below (overflow (held_by m) i) h'.below → Taken
+    taken : held_by h' ≡ stored (held_by m) i v → cells h'.below ≡ replaced (overflow (held_by m) i) (cells m.below) → Preserved sound outside fixed m.below h'.below → Sent (MovedBy cells idles takes) m.below (overflow (held_by m) i) h'.below → Taken
     taken stores below kept' sent =
         let hs = held_by h in
         let xs = cells h.below in

@@ -17,7 +17,7 @@ module _ {B : Type 0} (cells : B → List ℕ) (idles : B → B → Type 0) (tak
   pub record Sending (start : B) (hs : List HeldCell) (now : B) (rest : List HeldCell) : Type 0 where
     pub same : replaced rest (cells now) ≡ replaced hs (cells start)
     pub way : (b : B) → Sent moved now rest b → Sent moved start hs b
-    pub taken : SoundHeld (length (cells start)) hs → All (FitsBelow (length (cells start))) rest × ((b : B) → Sent takes now rest b → Sent takes start hs b)
+    pub all_taken : SoundHeld (length (cells start)) hs → All (FitsBelow (length (cells start))) rest × ((b : B) → Sent takes now rest b → Sent takes start hs b)
 
   pub sending_size : {start : B} {hs : List HeldCell} {now : B} {rest : List HeldCell} → Sending start hs now rest → length (cells now) ≡ length (cells start)
   sending_size s = grind (arith, length-replaced)
@@ -29,5 +29,5 @@ module _ {B : Type 0} (cells : B → List ℕ) (idles : B → B → Type 0) (tak
       record {
         same = ap (replaced later) (after ∙ written_set (cells now) h.cell h.value) ∙ s.same;
         way = λ b t. s.way b (last, m, t);
-        taken = λ sound. let k = s.taken sound in (λ j d lt. k.0 (suc j) d (omega arith), λ b t. k.1 b (last, m.0 (subst (λ n. h.cell < n) (sym size) (k.0 0 h (omega arith)).0), t));
+        all_taken = λ sound. let k = s.all_taken sound in (λ j d lt. k.0 (suc j) d (omega arith), λ b t. k.1 b (last, m.0 (subst (λ n. h.cell < n) (sym size) (k.0 0 h (omega arith)).0), t));
       }

@@ -116,6 +116,7 @@ impl<B: Bank> HoldBack<B> {
     }
 }
 
+#[tactic(auto, using(crate::proofs::Held::held_replies))]
 impl<B: Bank> Bank for HoldBack<B> {
     ghost cells = { λ h. held_over B.cells h };
 
@@ -148,13 +149,12 @@ impl<B: Bank> Bank for HoldBack<B> {
 
     fn write(&mut self, cell: usize, value: u16) -> Result<(), Refusal> {
         self.reach(cell)?;
-        match self.newest(cell) {
+        if let Some(i) = self.newest(cell) {
             // By its place: the cell there is replaced.
-            Some(i) => self.held[i] = HeldCell { cell, value },
-            None => {
-                self.make_room();
-                self.held.push(HeldCell { cell, value });
-            }
+            self.held[i] = HeldCell { cell, value };
+        } else {
+            self.make_room();
+            self.held.push(HeldCell { cell, value });
         }
         Ok(())
     }
@@ -163,8 +163,10 @@ impl<B: Bank> Bank for HoldBack<B> {
 // Settles a hold-back that lies over another one, which then holds what was sent in the order in which it came.
 // (`kept`: see `Bank`.)
 pub fn settle_upper<B: Bank>(upper: &mut HoldBack<HoldBack<B>>)
+    ensures settled { SentDown ⟦<HoldBack<B> as Bank>⟧.cells ⟦<HoldBack<B> as Bank>⟧.idles ⟦<HoldBack<B> as Bank>⟧.takes upper.old upper.new.below }
     ensures lower { SoundHeld (length (held_over B.cells upper.old.below)) (held_by upper.old) → held_by upper.new.below ≡ taken_in (held_by upper.old.below) (held_by upper.old) }
     ensures held { held_by upper.new ≡ [] }
+    ensures sound { ⟦<HoldBack<HoldBack<B>> as Bank>⟧.sound upper.old → ⟦<HoldBack<HoldBack<B>> as Bank>⟧.sound upper.new }
     ensures same { ⟦<HoldBack<HoldBack<B>> as Bank>⟧.cells upper.new ≡ ⟦<HoldBack<HoldBack<B>> as Bank>⟧.cells upper.old }
     ensures kept { Preserved ⟦<HoldBack<B> as Bank>⟧.sound ⟦<HoldBack<B> as Bank>⟧.outside ⟦<HoldBack<B> as Bank>⟧.fixed upper.old.below upper.new.below }
 {

@@ -76,14 +76,14 @@ fn met(event: Event, caller: Side, other: Side) -> Contact {
     }
 }
 
-// A rule on trial, and the runtime that ends a test that fails.
+// A rule under test, and the runtime that ends a test that fails.
 #[derive(Drop)]
-struct Trial<A, R> {
+struct RuleUnderTest<A, R> {
     rt: A,
     rule: R,
 }
 
-impl<A: Abort, R: Rule> Trial<A, R> {
+impl<A: Abort, R: Rule> RuleUnderTest<A, R> {
     // A line of a table.
     fn line_holds(&self, event: Event, caller: Side, number: u32, line: [Verdict; 4]) {
         for (flags, verdict) in ORDER.into_iter().zip(line) {
@@ -109,36 +109,36 @@ impl<A: Abort, R: Rule> Trial<A, R> {
 
 #[test]
 fn closer_wins(rt: HostRuntime) {
-    let trial = Trial {
+    let tested = RuleUnderTest {
         rt,
         rule: CloserWins,
     };
-    trial.event_holds(Event::Read, [BOTH_STAND; 3]);
-    trial.event_holds(Event::Write, [BOTH_STAND; 3]);
-    trial.event_holds(Event::Close, [READER_YIELDS; 3]);
+    tested.event_holds(Event::Read, [BOTH_STAND; 3]);
+    tested.event_holds(Event::Write, [BOTH_STAND; 3]);
+    tested.event_holds(Event::Close, [READER_YIELDS; 3]);
 }
 
 #[test]
 fn newcomer_yields(rt: HostRuntime) {
-    let trial = Trial {
+    let tested = RuleUnderTest {
         rt,
         rule: NewcomerYields,
     };
-    trial.event_holds(Event::Read, [YIELDS_TO_A_WRITE; 3]);
-    trial.event_holds(Event::Write, [YIELDS_TO_A_TOUCH; 3]);
-    trial.event_holds(Event::Close, [WRITER_YIELDS; 3]);
+    tested.event_holds(Event::Read, [YIELDS_TO_A_WRITE; 3]);
+    tested.event_holds(Event::Write, [YIELDS_TO_A_TOUCH; 3]);
+    tested.event_holds(Event::Close, [WRITER_YIELDS; 3]);
 }
 
 #[test]
 fn oldest_stands(rt: HostRuntime) {
-    let trial = Trial {
+    let tested = RuleUnderTest {
         rt,
         rule: OldestStands,
     };
     let at_close = [READER_YIELDS, WRITER_YIELDS, WRITER_YIELDS];
-    trial.event_holds(Event::Read, [BOTH_STAND; 3]);
-    trial.event_holds(Event::Write, [BOTH_STAND; 3]);
-    trial.event_holds(Event::Close, at_close);
+    tested.event_holds(Event::Read, [BOTH_STAND; 3]);
+    tested.event_holds(Event::Write, [BOTH_STAND; 3]);
+    tested.event_holds(Event::Close, at_close);
 }
 
 #[test]

@@ -1,24 +1,13 @@
 use Rattle.std.proofs.Common.{arith}
 use Rattle.bank.specs.Cells.{none, more}
-use Rattle.bank.specs.Holding.{length-replaced}
-use Rattle.bank.proofs.Held.{found_reading, absent_reading}
 use Rattle.bank.proofs.Holds.{asked}
 use Rattle.bank.proofs.hold_back.HoldBackBank.read.Goals as goal
-
-pub returns-in_err-reach-clause-value : goal.returns-in_err-reach-clause-value
-returns-in_err-reach-clause-value g c = grind (arith, length-replaced)
 
 pub returns-in_err-reach-clause-idle : goal.returns-in_err-reach-clause-idle
 returns-in_err-reach-clause-idle g c = let e = c.reach.ensures in asked e.held e.same e.idle
 
-pub returns-in-Some-clause-value : goal.returns-in-Some-clause-value
-returns-in-Some-clause-value g c = grind (arith, found_reading)
-
 pub returns-in-Some-clause-idle : goal.returns-in-Some-clause-idle
 returns-in-Some-clause-idle g c = let e = c.reach.ensures in asked e.held e.same e.idle
-
-pub returns-in-None-clause-value : goal.returns-in-None-clause-value
-returns-in-None-clause-value g c = grind (arith, absent_reading)
 
 pub returns-in-None-clause-idle : goal.returns-in-None-clause-idle
 returns-in-None-clause-idle g c = let e = c.reach.ensures in let r = c.read.ensures in record { same_held = e.held; same_below = grind arith; way = more e.idle (more r.idle none) }
