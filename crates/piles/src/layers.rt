@@ -31,18 +31,19 @@ impl Layers<AskedSpan> {
     }
 }
 
-// Where a window is asked to lie. It may reach beyond the limit.
+// Where a window is asked to lie. It may reach beyond the limit. A number above 65535 stands as 65535, which is as far beyond, so
+// that a line takes little memory: the program holds every line of its input at once.
 #[derive(Clone, Copy)]
 pub struct AskedSpan {
-    pub first: usize,
-    pub length: usize,
+    pub first: u16,
+    pub length: u16,
 }
 
 impl TryFrom<AskedSpan> for Span {
     type Error = Refusal;
 
     fn try_from(asked: AskedSpan) -> Result<Span, Refusal> {
-        Span::new(asked.first, asked.length)
+        Span::new(asked.first.into(), asked.length.into())
     }
 }
 

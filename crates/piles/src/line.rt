@@ -98,14 +98,19 @@ impl Fields<'_> {
     // The first cell and the length of a window.
     fn span(&mut self) -> Option<AskedSpan> {
         Some(AskedSpan {
-            first: self.number()?,
-            length: self.number()?,
+            first: self.capped()?,
+            length: self.capped()?,
         })
     }
 
     // A number of at most 65535.
     fn word(&mut self) -> Option<u16> {
         self.number()?.try_into().ok()
+    }
+
+    // A number, or 65535 in the place of a larger one.
+    fn capped(&mut self) -> Option<u16> {
+        Some(self.number()?.try_into().unwrap_or(u16::MAX))
     }
 
     // A number of 1 to 20 digits that fits 64 bits.
