@@ -128,7 +128,7 @@ BUGS = [
         'for h in &self.held {',
         'self.held.reverse(); for h in &self.held {'),
     ('bank', 'settle keeps', 'src/hold_back.rt',
-        '        self.held.clear();\n',
+        '        self.held = ArrayVec::new();\n',
         '        let _ = self.held.len();\n'),
     ('bank', 'settle first value', 'src/hold_back.rt',
         'self.below.write(h.cell, h.value)',

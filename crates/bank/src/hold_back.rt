@@ -74,7 +74,7 @@ impl<B: Bank> HoldBack<B> {
             // A held cell is one of the bank below, so this is granted.
             let _ = self.below.write(h.cell, h.value);
         }
-        self.held.clear();
+        self.held = ArrayVec::new();
     }
 
     // Hands the bank below back, after sending down what is held. (`kept`: see `Bank`.)

@@ -12,7 +12,7 @@ pub struct WordBank<'a> {
 }
 
 // A row that no bank can be over, handed back, and why.
-#[derive(Drop)]
+#[derive(Debug, Drop)]
 pub struct RowRefused<'a> {
     pub row: &'a mut [u16],
     pub refusal: Refusal,
