@@ -74,6 +74,7 @@ impl<B: Bank> HoldBack<B> {
             // A held cell is one of the bank below, so this is granted.
             let _ = self.below.write(h.cell, h.value);
         }
+        // Not by `clear`, which is a call, for which each write would save its registers.
         self.held = ArrayVec::new();
     }
 

@@ -31,8 +31,8 @@ impl Layers<AskedSpan> {
     }
 }
 
-// Where a window is asked to lie. It may reach beyond the limit. A number above 65535 stands as 65535, which is as far beyond, so
-// that a line takes little memory: the program holds every line of its input at once.
+// Where a window is asked to lie. It may reach beyond the limit. A number above 65535 stands as 65535, which is refused alike: the
+// program holds every line of its input at once, so a line should be small.
 #[derive(Clone, Copy)]
 pub struct AskedSpan {
     pub first: u16,
