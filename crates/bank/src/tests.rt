@@ -100,6 +100,22 @@ fn a_refused_row_passes_its_refusal_on(rt: HostRuntime) {
 }
 
 #[test]
+fn a_refused_row_can_be_shown(rt: HostRuntime) -> Result<(), Fail> {
+    let mut none: [u16; 0] = [];
+    match WordBank::over(&mut none) {
+        Ok(_) => Err(Fail::new("an empty row is admitted")),
+        Err(refused) => {
+            let shown = format!(in rt.alloc(); "{refused:?}")?;
+            assert_eq!(rt;
+                shown.as_str(),
+                "RowRefused { row: [], refusal: LengthNotAdmitted }"
+            );
+            Ok(())
+        }
+    }
+}
+
+#[test]
 fn a_held_cell_shows_its_number_and_value(rt: HostRuntime) -> Result<(), Fail> {
     let shown = HeldCell { cell: 3, value: 17 }.to_string(rt.alloc())?;
     assert_eq!(rt; shown.as_str(), "3=17");
